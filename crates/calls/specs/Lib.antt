@@ -1,0 +1,5 @@
+pub mod Numbers
+pub mod Reading
+pub mod Calls
+pub mod History
+pub mod Theorem
