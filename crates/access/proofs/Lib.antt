@@ -1,0 +1,12 @@
+pub mod Offsets
+pub mod Reading
+pub mod Solving
+pub mod Slots
+pub mod Reached
+pub mod Indices
+pub mod FetchIndex
+pub mod Weights
+pub mod Changing
+pub mod Touched
+pub mod Replacing
+pub mod PutIndex

@@ -1,0 +1,3 @@
+pub mod Fetch
+pub mod Put
+pub mod Theorems

@@ -1,0 +1,14 @@
+pub mod Checks
+pub mod Members
+pub mod Once
+pub mod Wraps
+pub mod Parts
+pub mod Kept
+pub mod Recovery
+pub mod Restoring
+pub mod Size
+pub mod Standing
+pub mod Slots
+pub mod Turns
+pub mod Ways
+pub mod Indexed

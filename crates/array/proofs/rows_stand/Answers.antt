@@ -1,0 +1,6 @@
+use Rattle.array.proofs.Restoring.{rows}
+use Rattle.row.proofs.Numbers.{numbered-apart}
+use Rattle.array.proofs.rows_stand.Needs as need
+
+pub returns : need.returns
+returns g c = rows (g .F·Field·met .laws) (numbered-apart (g .F·Field .ops .zero) (g .F·NumberedField .size) (g .F·NumberedField .symbol) (g .F·NumberedField .number) (g .F·NumberedField·met .numbering))
