@@ -1,4 +1,5 @@
 pub mod Numbers
+pub mod Faults
 pub mod Reading
 pub mod Calls
 pub mod History

@@ -6,6 +6,7 @@ use field::NumberedField;
 use store::Cause;
 
 mod call;
+mod fault;
 pub use call::Answer;
 pub use call::Call;
 pub use call::CallFault;
@@ -13,6 +14,9 @@ pub use call::CallName;
 pub use call::Found;
 pub use call::Reason;
 pub use call::SheetFault;
+pub use fault::CallFromSheet;
+pub use fault::SheetFromStore;
+pub use fault::named;
 
 impl CallFault {
     // The number of a fault.

@@ -1,1 +1,4 @@
 pub mod Lawful
+pub mod Planning
+pub mod Served
+pub mod Makings

@@ -1,1 +1,3 @@
 pub mod TwoClass
+pub mod Plans
+pub mod Promise

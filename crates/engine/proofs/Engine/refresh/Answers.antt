@@ -1,0 +1,29 @@
+use mathlib.Core.Path.{_≡_, refl, sym, ap, ap₂, _∙_, subst}
+use mathlib.Core.Logic.{_⊎_, inl, inr}
+use mathlib.Core.Bool.{true, false, _&&_}
+use native.Mathlib.Omega.{arith}
+use Rattle.std.specs.declared.result.Result.the-variants.{Ok}
+use Rattle.store.specs.Meaning.{refreshed}
+use Rattle.calls.specs.Calls.{RefreshDone, node-decline, node-meters}
+use Rattle.calls.specs.declared.call.CallName.the-variants.{Refresh}
+use Rattle.calls.proofs.Declines.{fits-parts}
+use Rattle.engine.proofs.Declining.{node-on}
+use Rattle.engine.proofs.Exits.{plain-declined, plain-done, summed-ok, summed-err}
+use Rattle.engine.proofs.Engine.refresh.Needs as need
+
+pub returns-in-Some : need.returns-in-Some
+unfolding RefreshDone
+returns-in-Some g c = plain-declined Refresh (node-decline (g .F·NumberedField .size) (g .C·Code .code (c .args .self .now .code)) (g .S·Store .meaning (c .args .store .now)) (c .args .node)) (node-meters (g .S·Store .meaning (c .args .store .now)) (c .args .node)) (g .S·Store .meaning (c .args .store .now)) (refreshed (g .S·Store .meaning (c .args .store .now)) (c .args .node)) (c .in-Some .reason) (c .in-Some .ensures tt)
+
+pub returns-in-Ok : need.returns-in-Ok
+unfolding RefreshDone
+returns-in-Ok g c =
+    let n = node-on (g .F·NumberedField .size) (g .C·Code .code (c .args .self .now .code)) (g .S·Store .meaning (c .args .store .now)) (c .args .node) (c .in-None .ensures tt) in
+    let lt = fits-parts (g .C·Code .code (c .args .self .now .code)) (g .S·Store .meaning (c .args .store .now)) (n .1) .1 in
+    plain-done Refresh (node-decline (g .F·NumberedField .size) (g .C·Code .code (c .args .self .now .code)) (g .S·Store .meaning (c .args .store .now)) (c .args .node)) (node-meters (g .S·Store .meaning (c .args .store .now)) (c .args .node)) (g .S·Store .meaning (c .args .store .now)) (refreshed (g .S·Store .meaning (c .args .store .now)) (c .args .node)) (Ok (c .in-Ok .cleared)) (g .S·Store .meaning (c .refresh .last .self)) (c .in-None .ensures tt) (ap Ok (summed-ok (g .S·Store .meaning (c .args .store .now)) (c .args .node) (c .in-Ok .cleared) (omega (arith, n .2, lt)) (c .in-Ok .ensures tt .answers))) (c .in-Ok .ensures tt .leaves)
+
+pub returns-in-Err : need.returns-in-Err
+returns-in-Err g c =
+    let n = node-on (g .F·NumberedField .size) (g .C·Code .code (c .args .self .now .code)) (g .S·Store .meaning (c .args .store .now)) (c .args .node) (c .in-None .ensures tt) in
+    let lt = fits-parts (g .C·Code .code (c .args .self .now .code)) (g .S·Store .meaning (c .args .store .now)) (n .1) .1 in
+    absurd (summed-err (g .S·Store .meaning (c .args .store .now)) (c .args .node) (c .in-Err .field-0) (omega (arith, n .2, lt)) (c .in-Err .ensures tt .answers))

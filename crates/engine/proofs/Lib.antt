@@ -1,0 +1,5 @@
+pub mod Declining
+pub mod Painting
+pub mod Changing
+pub mod Exits
+pub mod Serving
