@@ -7,6 +7,7 @@ use store::Cause;
 
 mod call;
 mod fault;
+
 pub use call::Answer;
 pub use call::Call;
 pub use call::CallFault;

@@ -1,5 +1,2 @@
-pub mod Declining
-pub mod Painting
-pub mod Changing
-pub mod Exits
+pub mod Makings
 pub mod Serving

@@ -6,6 +6,19 @@ ghost use Rattle.calls.specs.Calls.{SetDone, PutDone, FetchDone, LoseDone, Refr
 ghost use Rattle.calls.specs.History.{asked, Step, served-memory};
 ghost use Rattle.calls.specs.Theorem.{Extends, Begun};
 ghost use Rattle.engine.specs.Making.{make-answer, make-leaves};
+use actions::apply;
+use actions::clear_nodes;
+use actions::fetch_by;
+use actions::fetch_decline;
+use actions::fetch_held;
+use actions::has_room;
+use actions::is_blank;
+use actions::mend_by;
+use actions::mend_decline;
+use actions::node_decline;
+use actions::put_decline;
+use actions::set_decline;
+use actions::write_array;
 use calls::Answer;
 use calls::Call;
 use calls::CallFault;
@@ -21,12 +34,7 @@ use reading::check;
 use sheet::Record;
 use store::Store;
 
-mod declines;
-mod fetching;
 mod make;
-mod mending;
-mod patching;
-mod writing;
 
 pub use make::MakeFault;
 
@@ -51,10 +59,10 @@ impl<C> Engine<C> {
         if F::size() < code.field_size() {
             return Err(MakeFault::SmallField);
         }
-        if !declines::has_room(&code, store) {
+        if !has_room(&code, store) {
             return Err(MakeFault::SmallStore);
         }
-        writing::clear_nodes(store, code.nodes());
+        clear_nodes(store, code.nodes());
         Ok(Engine { code })
     }
 
@@ -77,7 +85,7 @@ impl<C> Engine<C> {
         C: Code<F>,
         ensures { λ r. ⌜ SetDone (F·Field .ops) (F·NumberedField .size) (C·Code .code (now (self .entry) .code)) (S·Store .meaning (now (store .entry))) (now (symbols .entry)) r (S·Store .meaning (now (store .exit))) ⌝ }
     {
-        match declines::set_decline(&self.code, store, symbols.len()) {
+        match set_decline(&self.code, store, symbols.len()) {
             Some(reason) => Err(CallFault {
                 call: CallName::Set,
                 reason,
@@ -88,7 +96,7 @@ impl<C> Engine<C> {
                     rows: self.code.rows(),
                     columns: self.code.columns(),
                 };
-                writing::write_array(store, &self.code, &data);
+                write_array(store, &self.code, &data);
                 Ok(0)
             }
         }
@@ -106,7 +114,7 @@ impl<C> Engine<C> {
         C: Code<F>,
         ensures { λ r. ⌜ PutDone (F·Field .ops) (F·NumberedField .size) (C·Code .code (now (self .entry) .code)) (S·Store .meaning (now (store .entry))) row column x r (S·Store .meaning (now (store .exit))) ⌝ }
     {
-        match declines::put_decline(&self.code, store, row, column) {
+        match put_decline(&self.code, store, row, column) {
             Some(reason) => Err(CallFault {
                 call: CallName::Put,
                 reason,
@@ -114,7 +122,7 @@ impl<C> Engine<C> {
             None => {
                 let patch = self.code.put_patch(row, column);
                 check(store, &patch, CallName::Put)?;
-                Ok(patching::apply(store, &patch, x))
+                Ok(apply(store, &patch, x))
             }
         }
     }
@@ -132,17 +140,17 @@ impl<C> Engine<C> {
         ensures done { λ r. ⌜ FetchDone (F·Field .ops) (F·NumberedField .size) (C·Code .code (now (self .entry) .code)) (S·Store .meaning (now (store .entry))) row column (length (now (memory .entry))) r (S·Store .meaning (now (store .exit))) ⌝ }
         ensures memory { λ r. ⌜ now (memory .exit) ≡ after-memory (F·Field .ops .zero) r (now (memory .entry)) ⌝ }
     {
-        match declines::fetch_decline(&self.code, store, row, column, memory.len()) {
+        match fetch_decline(&self.code, store, row, column, memory.len()) {
             Some(reason) => Err(CallFault {
                 call: CallName::Fetch,
                 reason,
             }),
             None => {
-                if declines::is_blank(store, row, column) {
+                if is_blank(store, row, column) {
                     let plan = self.code.fetch_plan(store, row, column);
-                    fetching::fetch_by(store, &plan, row, memory)
+                    fetch_by(store, &plan, row, memory)
                 } else {
-                    fetching::fetch_held(store, row, column, memory)
+                    fetch_held(store, row, column, memory)
                 }
             }
         }
@@ -158,7 +166,7 @@ impl<C> Engine<C> {
         C: Code<F>,
         ensures { λ r. ⌜ LoseDone (F·NumberedField .size) (C·Code .code (now (self .entry) .code)) (S·Store .meaning (now (store .entry))) node r (S·Store .meaning (now (store .exit))) ⌝ }
     {
-        match declines::node_decline(&self.code, store, node) {
+        match node_decline(&self.code, store, node) {
             Some(reason) => Err(CallFault {
                 call: CallName::Lose,
                 reason,
@@ -183,7 +191,7 @@ impl<C> Engine<C> {
         C: Code<F>,
         ensures { λ r. ⌜ RefreshDone (F·NumberedField .size) (C·Code .code (now (self .entry) .code)) (S·Store .meaning (now (store .entry))) node r (S·Store .meaning (now (store .exit))) ⌝ }
     {
-        match declines::node_decline(&self.code, store, node) {
+        match node_decline(&self.code, store, node) {
             Some(reason) => Err(CallFault {
                 call: CallName::Refresh,
                 reason,
@@ -210,14 +218,14 @@ impl<C> Engine<C> {
         ensures done { λ r. ⌜ MendDone (F·Field .ops) (F·NumberedField .size) (C·Code .code (now (self .entry) .code)) (S·Store .meaning (now (store .entry))) node (length (now (memory .entry))) r (S·Store .meaning (now (store .exit))) ⌝ }
         ensures memory { λ r. ⌜ now (memory .exit) ≡ after-memory (F·Field .ops .zero) r (now (memory .entry)) ⌝ }
     {
-        match declines::mend_decline(&self.code, store, node, memory.len()) {
+        match mend_decline(&self.code, store, node, memory.len()) {
             Some(reason) => Err(CallFault {
                 call: CallName::Mend,
                 reason,
             }),
             None => {
                 let plan = self.code.mend_plan(store, node);
-                mending::mend_by(store, &plan, self.code.rows(), node, memory)
+                mend_by(store, &plan, self.code.rows(), node, memory)
             }
         }
     }

@@ -4,6 +4,15 @@ ghost use Prim.Native.Nat.{ℕ};
 ghost use Rattle.std.specs.declared.option.Option.{Option};
 ghost use Rattle.field.specs.Laws.{Operations, FieldLaws, Numbering};
 
+mod decimal;
+
+pub use decimal::Decimal;
+pub use decimal::DecimalDebug;
+pub use decimal::DecimalEq;
+pub use decimal::DecimalField;
+pub use decimal::DecimalNumbered;
+pub use decimal::DecimalPartialEq;
+
 // A field of symbols.
 pub trait Field: Copy {
     ghost ops: { Operations Self };

@@ -41,6 +41,19 @@ impl NodeSheet {
         NodeSheet { parameters, node }
     }
 
+    pub fn parameters(self) -> Parameters
+        ensures { λ r. ⌜ r ≡ self .parameters ⌝ }
+    {
+        self.parameters
+    }
+
+    // The node that is mended.
+    pub fn node(self) -> usize
+        ensures { λ r. ⌜ r ≡ self .node ⌝ }
+    {
+        self.node
+    }
+
     // How many places are listed for an offset past the last step.
     fn far_width(self) -> usize
         ensures { λ r. ⌜ r ≡ far-width (self .parameters) ⌝ }

@@ -84,21 +84,12 @@ module _ {F : Type 0} {o : Operations F} (laws : FieldLaws o) where
       let a : v ⊗ (u ⊗ inverse u) ≡ inverse u ⊗ (u ⊗ v) = simp products in
       sym (product-one v) ∙ ap (λ t. v ⊗ t) (sym (laws .inverse-of u n)) ∙ a ∙ ap (λ t. inverse u ⊗ t) e ∙ product-zero (inverse u)
 
-  test1 : (a b c d : F) → (a ⊕ b) ⊗ (c ⊕ d) ≡ ((b ⊗ d) ⊕ (a ⊗ d)) ⊕ ((c ⊗ a) ⊕ (c ⊗ b))
-  test1 a b c d = simp ring
-
 module _ {F : Type 0} {o : Operations F} (laws : FieldLaws o) where
   open Operations o using (zero as 𝟘, one as 𝟙, sum as _⊕_, product as _⊗_, difference as _⊖_, inverse)
 
   infixl 60 _⊕_
   infixl 60 _⊖_
   infixl 70 _⊗_
-  test2 : (a b c d : F) → (a ⊕ b) ⊗ (c ⊕ d) ≡ ((b ⊗ d) ⊕ (a ⊗ d)) ⊕ ((c ⊗ a) ⊕ (c ⊗ b))
-  test2 a b c d = simp (ring, laws)
-
-  test3 : (a b c d x : F) → (x ⊖ a) ⊗ (c ⊕ d) ⊕ a ⊗ (d ⊕ c) ≡ x ⊗ d ⊕ x ⊗ c
-  test3 a b c d x = ap (λ t. (x ⊖ a) ⊗ (c ⊕ d) ⊕ a ⊗ t) (sum-comm laws d c) ∙ sym (distributes-right laws (x ⊖ a) a (c ⊕ d)) ∙ simp (sub-add, ring, laws)
-
   pub product-apart : (u v : F) → (u ≡ 𝟘 → ⊥) → (v ≡ 𝟘 → ⊥) → u ⊗ v ≡ 𝟘 → ⊥
   product-apart u v nu nv e = nv (no-divisors laws u v nu e)
 

@@ -14,15 +14,11 @@ use Rattle.field.specs.Laws.{Operations, FieldLaws}
 use Rattle.row.specs.Polynomial.{value}
 use Rattle.row.specs.Interpolation.{sum-below, product-below, factor, others, basis, interpolate, Apart, Meets}
 use Rattle.row.proofs.Algebra.{ring, sub-add, zero-sum, sum-zero, product-zero, zero-product, product-one, one-product, difference-unique, difference-zero, self-difference, product-apart, one-apart, distributes-right}
-use Rattle.row.proofs.Polynomial.{plus, scale, length-plus, length-scale, value-plus, value-scale, unique}
+use Rattle.row.proofs.Polynomial.{zeros, value-zeros, plus, scale, length-plus, length-scale, value-plus, value-scale, unique}
 
 -- f is a polynomial of degree below k
 abbrev pub Poly : {F : Type 0} → Operations F → ℕ → (F → F) → Type 0
 Poly {F} o k f = (p : List F) × (length p ≡ k) × ((x : F) → value o p x ≡ f x)
-
-abbrev zeros : {F : Type 0} → Operations F → ℕ → List F
-zeros o zero = []
-zeros o (suc k) = o .zero ∷ zeros o k
 
 length-zeros : {F : Type 0} (o : Operations F) (k : ℕ) → length (zeros o k) ≡ k
 length-zeros o zero = refl
@@ -36,12 +32,8 @@ module _ {F : Type 0} {o : Operations F} (laws : FieldLaws o) where
   infixl 70 _⊗_
   -- what is a polynomial, and of which degree
 
-  value-zeros : (k : ℕ) (x : F) → value o (zeros o k) x ≡ 𝟘
-  value-zeros zero x = refl
-  value-zeros (suc k) x = ap (λ t. 𝟘 ⊕ x ⊗ t) (value-zeros k x) ∙ simp (ring, laws)
-
   poly-zero : (k : ℕ) → Poly o k (λ _. 𝟘)
-  poly-zero k = (zeros o k, length-zeros o k, value-zeros k)
+  poly-zero k = (zeros o k, length-zeros o k, value-zeros laws k)
 
   poly-one : Poly o 1 (λ _. 𝟙)
   poly-one = (𝟙 ∷ [], refl, λ x. ap (λ t. 𝟙 ⊕ t) (product-zero laws x) ∙ sum-zero laws 𝟙)

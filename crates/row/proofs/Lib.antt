@@ -3,3 +3,5 @@ pub mod Gap
 pub mod Lagrange
 pub mod Polynomial
 pub mod Numbers
+pub mod Rules
+pub mod Listings

@@ -19,6 +19,11 @@ length-quotient : {F : Type 0} (o : Operations F) (p : List F) (a : F) → lengt
 length-quotient o [] a = refl
 length-quotient o (d ∷ r) a = ap suc (length-quotient o r a)
 
+-- the polynomial with k coefficients zero
+abbrev pub zeros : {F : Type 0} → Operations F → ℕ → List F
+zeros o zero = []
+zeros o (suc k) = o .zero ∷ zeros o k
+
 -- p + q and s p
 abbrev pub plus : {F : Type 0} → Operations F → List F → List F → List F
 plus o [] q = q
@@ -104,3 +109,70 @@ module _ {F : Type 0} {o : Operations F} (laws : FieldLaws o) where
       minus u v =
           let e : (((𝟘 ⊖ 𝟙) ⊗ v) ⊕ u) ⊕ v ≡ ((𝟘 ⊖ 𝟙) ⊕ 𝟙) ⊗ v ⊕ u = simp (ring, laws) in
           e ∙ ap (λ t. t ⊗ v ⊕ u) (sub-add laws 𝟘 𝟙) ∙ simp (ring, laws)
+
+  -- so are the coefficients
+
+  pub value-zeros : (k : ℕ) (x : F) → value o (zeros o k) x ≡ 𝟘
+  value-zeros zero x = refl
+  value-zeros (suc k) x = ap (λ t. 𝟘 ⊕ x ⊗ t) (value-zeros k x) ∙ simp (ring, laws)
+
+  alone : (c a : F) (k : ℕ) (p : List F) → p ≡ zeros o k → value o (c ∷ p) a ≡ c
+  alone c a k p e = ap (λ q. c ⊕ a ⊗ value o q a) e ∙ ap (λ t. c ⊕ a ⊗ t) (value-zeros k a) ∙ simp (ring, laws)
+
+  dividend-zeros : (k : ℕ) (p : List F) (a : F) → quotient o p a ≡ zeros o k → p ≡ zeros o k
+  dividend-zeros zero [] a e = refl
+  dividend-zeros (suc k) [] a e = let n : _≡_ {A = ℕ} 0 (suc (length (zeros o k))) = ap length e in absurd (omega arith)
+  dividend-zeros zero (d ∷ r) a e = let n : _≡_ {A = ℕ} (suc (length (quotient o r a))) 0 = ap length e in absurd (omega arith)
+  dividend-zeros (suc k) (d ∷ r) a e =
+      let rest : quotient o r a ≡ zeros o k = cc in
+      let first : value o (d ∷ r) a ≡ 𝟘 = cc in
+      let tail = dividend-zeros k r a rest in
+      ap₂ _∷_ (sym (alone d a k r tail) ∙ first) tail
+
+  -- a polynomial of degree below k that vanishes at k points has no coefficient but zero
+  pub vanishes-coefficients : (k : ℕ) (p : List F) → length p ≡ k → (point : ℕ → F) → Apart point k → Meets o point k (λ _. 𝟘) p → p ≡ zeros o k
+  vanishes-coefficients zero [] e point apart roots = refl
+  vanishes-coefficients (suc k) [] e point apart roots = absurd (omega arith)
+  vanishes-coefficients zero (c ∷ p) e point apart roots = absurd (omega arith)
+  vanishes-coefficients (suc k) (c ∷ p) e point apart roots =
+      let a = point k in
+      let at-a = roots k (omega arith) in
+      let q = quotient o p a in
+      let at : (i : ℕ) → i < k → value o q (point i) ≡ 𝟘
+      = λ i h.
+      let b = point i in
+      let same : b ⊗ value o p b ≡ a ⊗ value o p a = cancel-left laws _ _ c (roots i (omega arith) ∙ sym at-a) in
+      no-divisors laws (b ⊖ a) (value o q b)
+      (λ z. let n : i ≡ k = apart i k (omega arith) (omega arith) (difference-zero laws b a z) in omega arith)
+      (cancel-right laws _ _ (a ⊗ value o p a) (sym (divides p b a) ∙ same ∙ sym (zero-sum laws (a ⊗ value o p a)))) in
+      let tail = dividend-zeros k p a (vanishes-coefficients k q (length-quotient o p a ∙ omega arith) point (λ i j hi hj. apart i j (omega arith) (omega arith)) at) in
+      ap₂ _∷_ (sym (alone c a k p tail) ∙ at-a) tail
+
+  minus-one : (u v : F) → (((𝟘 ⊖ 𝟙) ⊗ v) ⊕ u) ⊕ v ≡ u
+  minus-one u v =
+      let e : (((𝟘 ⊖ 𝟙) ⊗ v) ⊕ u) ⊕ v ≡ ((𝟘 ⊖ 𝟙) ⊕ 𝟙) ⊗ v ⊕ u = simp (ring, laws) in
+      e ∙ ap (λ t. t ⊗ v ⊕ u) (sub-add laws 𝟘 𝟙) ∙ simp (ring, laws)
+
+  same-coefficients : (k : ℕ) (p q : List F) → length p ≡ k → length q ≡ k → plus o (scale o (𝟘 ⊖ 𝟙) q) p ≡ zeros o k → p ≡ q
+  same-coefficients k [] [] ep eq e = refl
+  same-coefficients k [] (b ∷ q) ep eq e = absurd (omega arith)
+  same-coefficients k (a ∷ p) [] ep eq e = absurd (omega arith)
+  same-coefficients zero (a ∷ p) (b ∷ q) ep eq e = absurd (omega arith)
+  same-coefficients (suc k) (a ∷ p) (b ∷ q) ep eq e =
+      let first : ((𝟘 ⊖ 𝟙) ⊗ b) ⊕ a ≡ 𝟘 = cc in
+      let rest : plus o (scale o (𝟘 ⊖ 𝟙) q) p ≡ zeros o k = cc in
+      ap₂ _∷_ (sym (minus-one a b) ∙ ap (λ t. t ⊕ b) first ∙ zero-sum laws b) (same-coefficients k p q (omega arith) (omega arith) rest)
+
+  -- two polynomials of degree below k that agree at k points are one
+  pub unique-coefficients : (k : ℕ) (p q : List F) → length p ≡ k → length q ≡ k → (point : ℕ → F) → Apart point k
+      → ((l : ℕ) → l < k → value o p (point l) ≡ value o q (point l)) → p ≡ q
+  unique-coefficients k p q ep eq point apart agree =
+      let n = 𝟘 ⊖ 𝟙 in
+      let d = plus o (scale o n q) p in
+      let back : (y : F) → value o d y ⊕ value o q y ≡ value o p y
+      = λ y.
+      ap (λ t. t ⊕ value o q y) (value-plus (scale o n q) p y ∙ ap (λ t. t ⊕ value o p y) (value-scale n q y)) ∙ minus-one (value o p y) (value o q y) in
+      let gone : (y : F) → value o p y ≡ value o q y → value o d y ≡ 𝟘
+      = λ y h. cancel-right laws _ _ (value o q y) (back y ∙ h ∙ sym (zero-sum laws (value o q y))) in
+      same-coefficients k p q ep eq
+      (vanishes-coefficients k d (length-plus o (scale o n q) p (omega (arith, length-scale o n q)) ∙ ep) point apart (λ l h. gone (point l) (agree l h)))

@@ -7,8 +7,8 @@ use Rattle.calls.specs.Reading.{raised}
 use Rattle.calls.specs.Calls.{FetchDone, FetchedBy, fetch-decline, fetch-recipe, found}
 use Rattle.calls.specs.declared.call.CallName.the-variants.{Fetch}
 use Rattle.calls.proofs.Declines.{fits-on, fits-parts}
-use Rattle.engine.proofs.Declining.{fetch-on}
-use Rattle.engine.proofs.Exits.{sheet-declined, memory-kept, slotted-more, fetch-blank, fetch-held}
+use Rattle.actions.proofs.Declining.{fetch-on}
+use Rattle.actions.proofs.Exits.{sheet-declined, memory-kept, slotted-more, fetch-blank, fetch-held}
 use Rattle.engine.proofs.Engine.fetch.Needs as need
 
 pub returns-in-Some : need.returns-in-Some

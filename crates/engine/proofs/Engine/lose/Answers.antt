@@ -7,8 +7,8 @@ use Rattle.store.specs.Meaning.{cleared}
 use Rattle.calls.specs.Calls.{LoseDone, node-decline, node-meters}
 use Rattle.calls.specs.declared.call.CallName.the-variants.{Lose}
 use Rattle.calls.proofs.Declines.{fits-parts}
-use Rattle.engine.proofs.Declining.{node-on}
-use Rattle.engine.proofs.Exits.{plain-declined, plain-done, summed-ok, summed-err}
+use Rattle.actions.proofs.Declining.{node-on}
+use Rattle.actions.proofs.Exits.{plain-declined, plain-done, summed-ok, summed-err}
 use Rattle.engine.proofs.Engine.lose.Needs as need
 
 pub returns-in-Some : need.returns-in-Some

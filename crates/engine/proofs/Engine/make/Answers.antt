@@ -5,7 +5,7 @@ use native.Mathlib.Omega.{arith}
 use Rattle.calls.specs.Reading.{blank-below}
 use Rattle.calls.proofs.Declines.{fits-parts}
 use Rattle.calls.proofs.Histories.{begun}
-use Rattle.engine.proofs.Exits.{make-field, make-store, make-done}
+use Rattle.engine.proofs.Makings.{make-field, make-store, make-done}
 use Rattle.engine.proofs.Engine.make.Needs as need
 
 pub returns-then-size-field-size : need.returns-then-size-field-size

@@ -6,8 +6,8 @@ use Rattle.code.specs.Codes.{blanks}
 use Rattle.calls.specs.Calls.{MendDone, mend-decline, mend-recipe, mend-sheet, mended}
 use Rattle.calls.specs.declared.call.CallName.the-variants.{Mend}
 use Rattle.calls.proofs.Declines.{fits-on, fits-parts}
-use Rattle.engine.proofs.Declining.{mend-on}
-use Rattle.engine.proofs.Exits.{sheet-declined, memory-kept, slotted-more, mend-by-plan}
+use Rattle.actions.proofs.Declining.{mend-on}
+use Rattle.actions.proofs.Exits.{sheet-declined, memory-kept, slotted-more, mend-by-plan}
 use Rattle.engine.proofs.Engine.mend.Needs as need
 
 pub returns-in-Some : need.returns-in-Some

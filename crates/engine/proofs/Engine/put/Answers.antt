@@ -10,9 +10,9 @@ use Rattle.calls.proofs.Declines.{fits-on}
 use Rattle.reading.specs.Checks.{checked}
 use Rattle.reading.proofs.Lists.{places-length}
 use Rattle.reading.proofs.Checking.{checked-clear}
-use Rattle.engine.proofs.Declining.{put-on}
-use Rattle.engine.proofs.Changing.{patched-is}
-use Rattle.engine.proofs.Exits.{sheet-declined, sheet-open, sheet-unread, sheet-read}
+use Rattle.actions.proofs.Declining.{put-on}
+use Rattle.actions.proofs.Changing.{patched-is}
+use Rattle.actions.proofs.Exits.{sheet-declined, sheet-open, sheet-unread, sheet-read}
 use Rattle.engine.proofs.Engine.put.Needs as need
 
 pub returns-in-Some : need.returns-in-Some

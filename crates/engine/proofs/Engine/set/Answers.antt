@@ -9,8 +9,8 @@ use Rattle.calls.specs.Reading.{painted, in-array}
 use Rattle.reading.specs.Tables.{laid-out}
 use Rattle.calls.specs.Calls.{SetDone, set-decline, array-set, data-of}
 use Rattle.calls.specs.declared.call.CallName.the-variants.{Set}
-use Rattle.engine.proofs.Declining.{set-passed}
-use Rattle.engine.proofs.Exits.{plain-declined, plain-done}
+use Rattle.actions.proofs.Declining.{set-passed}
+use Rattle.actions.proofs.Exits.{plain-declined, plain-done}
 use Rattle.engine.proofs.Engine.set.Needs as need
 
 pub returns-in-Some : need.returns-in-Some

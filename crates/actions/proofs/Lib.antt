@@ -1,0 +1,4 @@
+pub mod Declining
+pub mod Painting
+pub mod Changing
+pub mod Exits

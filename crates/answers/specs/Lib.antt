@@ -1,0 +1,2 @@
+pub mod Declines
+pub mod Lines

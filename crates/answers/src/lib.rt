@@ -1,0 +1,4 @@
+// Answer lines.
+pub mod decline;
+pub mod reply;
+pub mod writing;

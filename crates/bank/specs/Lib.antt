@@ -1,0 +1,3 @@
+pub mod Cells
+pub mod Banks
+pub mod Soundness

@@ -1,0 +1,6 @@
+use mathlib.Core.Path.{refl}
+use Rattle.byte.proofs.Laws.{is-byte}
+use Rattle.byte.proofs.symbols.ByteField.zero.Needs as need
+
+pub returns : need.returns
+returns c = is-byte _ _ refl

@@ -1,0 +1,5 @@
+pub mod Replies
+pub mod Engines
+pub mod Machines
+pub mod Makings
+pub mod Sessions

@@ -1,0 +1,3 @@
+// Session lines, parted into their words.
+pub mod line;
+pub mod parsing;

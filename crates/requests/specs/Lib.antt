@@ -1,0 +1,4 @@
+pub mod Letters
+pub mod Meaning
+pub mod Phrases
+pub mod Reading

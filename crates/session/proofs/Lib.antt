@@ -1,0 +1,4 @@
+pub mod Feeds
+pub mod Pieces
+pub mod Runs
+pub mod Streams

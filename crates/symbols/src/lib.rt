@@ -1,0 +1,3 @@
+// Symbols as words.
+pub mod notation;
+pub mod reading;

@@ -1,0 +1,5 @@
+pub mod Lines
+pub mod Numbers
+pub mod Parts
+pub mod Words
+pub mod Cutting
