@@ -132,7 +132,7 @@ impl FetchPlan {
 
     // The symbol of the data place, from the symbols at the places of the listing.
     pub fn solve<F: NumberedField, T: Table<F>>(self, table: &T) -> F
-        ensures { result ≡ fetch_symbol F.Field.ops (numbered_of F.Field.ops.zero symbol) self.parameters (T.Table.held table.now) self.row self.column }
+        ensures { result ≡ fetch_symbol F.Field.ops (numbered_of F.Field.ops.zero F.symbol) self.parameters (T.Table.held table.now) self.row self.column }
     {
         let parameters = self.parameters;
         match self.way() {

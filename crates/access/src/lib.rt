@@ -12,14 +12,14 @@ pub use put::PutPatch;
 
 // What a fetch reads, and that what it computes is the symbol that was lost.
 pub fn fetch_stands<F: NumberedField>() -> u8
-    ensures { Fetches F.Field.ops (numbered_of F.Field.ops.zero symbol) size }
+    ensures { Fetches F.Field.ops (numbered_of F.Field.ops.zero F.symbol) F.size }
 {
     0
 }
 
 // What a put changes, and that it leaves the array over the data with that symbol replaced.
 pub fn put_stands<F: NumberedField>() -> u8
-    ensures { Puts F.Field.ops (numbered_of F.Field.ops.zero symbol) }
+    ensures { Puts F.Field.ops (numbered_of F.Field.ops.zero F.symbol) }
 {
     0
 }

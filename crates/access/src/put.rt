@@ -95,7 +95,7 @@ impl PutPatch {
 
     // The weight of the data symbol at a place.
     pub fn weight_at<F: NumberedField>(self, place: Place) -> F
-        ensures { result ≡ put_weight F.Field.ops (numbered_of F.Field.ops.zero symbol) self.parameters self.row self.column place.row place.node }
+        ensures { result ≡ put_weight F.Field.ops (numbered_of F.Field.ops.zero F.symbol) self.parameters self.row self.column place.row place.node }
     {
         let k = self.parameters.k;
         let end = k + self.parameters.a;

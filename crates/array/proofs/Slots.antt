@@ -204,7 +204,7 @@ module _ (s : Parameters) (j : ℕ) (hj : j < s.k) where
 
   same : (p q : Place) → Held p → Held q → slot s j p.row p.node ≡ slot s j q.row q.node → p ≡ q
   same p q f g e =
-      let (r, c) = pair_apart s.k f.row f.node g.row g.node f.node_below g.node-below (sym f.is ∙ e ∙ g.is) in
+      let (r, c) = pair_apart s.k f.row f.node g.row g.node f.node_below g.node_below (sym f.is ∙ e ∙ g.is) in
       ⊎_elim
       (λ u. ⊎_elim (λ v. u.1 ∙ ap₂ at r c ∙ sym v.1) (λ v. absurd (u.0 (c ∙ v.2))) g.fixes)
       (λ u.

@@ -17,14 +17,14 @@ pub use sums::{around, by_local, past, weight};
 
 // A row's symbols are the values of one polynomial.
 pub fn rows_stand<F: NumberedField>() -> u8
-    ensures { Rows F.Field.ops (numbered_of F.Field.ops.zero symbol) size }
+    ensures { Rows F.Field.ops (numbered_of F.Field.ops.zero F.symbol) F.size }
 {
     0
 }
 
 // The symbols at the places of its read sheet give back every symbol of a node.
 pub fn recovery_stands<F: NumberedField>() -> u8
-    ensures { Restores F.Field.ops (numbered_of F.Field.ops.zero symbol) size }
+    ensures { Restores F.Field.ops (numbered_of F.Field.ops.zero F.symbol) F.size }
 {
     0
 }

@@ -40,7 +40,7 @@ impl Parameters {
 
     // Whether the field F has a number for each data node and each Class A node.
     pub fn fits_field<F: NumberedField>(self) -> bool
-        ensures { result ≡ nat_le (self.k + self.a) size }
+        ensures { result ≡ nat_le (self.k + self.a) F.size }
     {
         self.k + self.a <= F::size()
     }
@@ -52,7 +52,7 @@ impl Parameters {
         tau: usize,
         b: usize,
     ) -> Result<Parameters, ParameterFault>
-        ensures { MatchResult result (λ p. (declined_over size k a tau b ≡ «is_none») × (p.k ≡ k) × (p.a ≡ a) × (p.tau ≡ tau) × (p.b ≡ b)) (λ f. declined_over size k a tau b ≡ «is_some» f) }
+        ensures { MatchResult result (λ p. (declined_over F.size k a tau b ≡ «is_none») × (p.k ≡ k) × (p.a ≡ a) × (p.tau ≡ tau) × (p.b ≡ b)) (λ f. declined_over F.size k a tau b ≡ «is_some» f) }
     {
         match Parameters::check(k, a, tau, b) {
             Err(fault) => Err(fault),

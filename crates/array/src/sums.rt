@@ -15,7 +15,7 @@ use sheet::Table;
 // The product of the differences of `at` and the symbols of the nodes 0, .., k but `gap`, without the one listed at `skipped`.
 fn product_of_others<F: NumberedField>(k: usize, gap: usize, skipped: usize, at: F) -> F
     requires { k ≤ 32 }
-    ensures { result ≡ others F.Field.ops (λ l. numbered_of F.Field.ops.zero symbol (skip_of gap l)) k skipped at }
+    ensures { result ≡ others F.Field.ops (λ l. numbered_of F.Field.ops.zero F.symbol (skip_of gap l)) k skipped at }
 {
     let mut result = F::one();
     for m in 0..k {
@@ -30,7 +30,7 @@ fn product_of_others<F: NumberedField>(k: usize, gap: usize, skipped: usize, at:
 // What the symbol at the node listed at `l` counts at `at`.
 pub fn weight<F: NumberedField>(k: usize, gap: usize, l: usize, at: F) -> F
     requires { (k ≤ 32) × (l < k) }
-    ensures { result ≡ basis F.Field.ops (λ l. numbered_of F.Field.ops.zero symbol (skip_of gap l)) k l at }
+    ensures { result ≡ basis F.Field.ops (λ l. numbered_of F.Field.ops.zero F.symbol (skip_of gap l)) k l at }
 {
     let above = product_of_others(k, gap, l, at);
     let point = numbered::<F>(skip(gap, l));
@@ -46,7 +46,7 @@ pub fn around<F: NumberedField, T: Table<F>>(
     row: usize,
     node: usize,
 ) -> F
-    ensures { result ≡ around F.Field.ops (numbered_of F.Field.ops.zero symbol) shape (T.Table.held table.now) gap row node }
+    ensures { result ≡ around F.Field.ops (numbered_of F.Field.ops.zero F.symbol) shape (T.Table.held table.now) gap row node }
 {
     let point = numbered::<F>(node);
     let mut total = F::zero();
@@ -60,7 +60,7 @@ pub fn around<F: NumberedField, T: Table<F>>(
 // The sum of the symbols past the diagonal that the node of step t adds in a row.
 pub fn past<F: Field, T: Table<F>>(shape: Parameters, table: &T, row: usize, t: usize) -> F
     requires { (row < shape.k) × (t < shape.k) }
-    ensures { result ≡ past ops shape (T.Table.held table.now) row t }
+    ensures { result ≡ past F.ops shape (T.Table.held table.now) row t }
 {
     let mut total = F::zero();
     for m in 1..shape.k - t {
@@ -72,7 +72,7 @@ pub fn past<F: Field, T: Table<F>>(shape: Parameters, table: &T, row: usize, t: 
 // The symbol x places past the diagonal in a row, by the last local node.
 pub fn by_local<F: Field, T: Table<F>>(shape: Parameters, table: &T, x: usize, row: usize) -> F
     requires { row < shape.k }
-    ensures { result ≡ by_local_lem ops shape (T.Table.held table.now) x row }
+    ensures { result ≡ by_local_lem F.ops shape (T.Table.held table.now) x row }
 {
     let mut rest = F::zero();
     for m in 1..shape.reach() {

@@ -92,8 +92,8 @@ module _ {F : Type 0} (o : Operations F) (code : CodeMeaning F) (m₀ : Meaning 
     sizes = c.sizes;
     right = subst (λ l. Rights l m) (sym (same a)) c.right;
     none = subst (λ l. Nones l m) (sym (same a)) c.none;
-    spare_rows = c.spare-rows;
-    spare_nodes = c.spare-nodes;
+    spare_rows = c.spare_rows;
+    spare_nodes = c.spare_nodes;
     balance = omega (arith, c.balance);
   }
     where
@@ -112,10 +112,10 @@ module _ {F : Type 0} (o : Operations F) (code : CodeMeaning F) (m₀ : Meaning 
     sizes = c.sizes;
     right = λ i j s li lj q. c.right i j s li lj (kept_none (ltb node m.nodes && eqb j node) (m.symbol i j) s q);
     none = λ e i j lj. none_kept (ltb node m.nodes && eqb j node) (m.symbol i j) (c.none e i j lj);
-    spare_rows = λ i j li lj. let p = c.spare-rows i j li lj in (none_kept (ltb node m.nodes && eqb j node) (m.symbol i j) p.0, zero_kept (ltb node m.nodes && eqb j node) (m.meter i j) p.1);
+    spare_rows = λ i j li lj. let p = c.spare_rows i j li lj in (none_kept (ltb node m.nodes && eqb j node) (m.symbol i j) p.0, zero_kept (ltb node m.nodes && eqb j node) (m.meter i j) p.1);
     spare_nodes = λ i j lj.
         let t : (ltb node m.nodes && eqb j node) ≡ false = and_false (ltb node m.nodes) (eqb j node) (ne_eqb j node (λ q. omega arith)) in
-        let p = c.spare-nodes i j lj in
+        let p = c.spare_nodes i j lj in
         (cond-false (ltb node m.nodes && eqb j node) None (m.symbol i j) t ∙ p.0, cond-false (ltb node m.nodes && eqb j node) 0 (m.meter i j) t ∙ p.1);
     balance = omega (arith, c.balance, sums);
   }
@@ -130,10 +130,10 @@ module _ {F : Type 0} (o : Operations F) (code : CodeMeaning F) (m₀ : Meaning 
     sizes = c.sizes;
     right = c.right;
     none = c.none;
-    spare_rows = λ i j li lj. let p = c.spare-rows i j li lj in (p.0, zero_kept (ltb node m.nodes && eqb j node) (m.meter i j) p.1);
+    spare_rows = λ i j li lj. let p = c.spare_rows i j li lj in (p.0, zero_kept (ltb node m.nodes && eqb j node) (m.meter i j) p.1);
     spare_nodes = λ i j lj.
         let t : (ltb node m.nodes && eqb j node) ≡ false = and_false (ltb node m.nodes) (eqb j node) (ne_eqb j node (λ q. omega arith)) in
-        let p = c.spare-nodes i j lj in
+        let p = c.spare_nodes i j lj in
         (p.0, cond-false (ltb node m.nodes && eqb j node) 0 (m.meter i j) t ∙ p.1);
     balance = omega (arith, c.balance, sums);
   }
@@ -157,8 +157,8 @@ module _ {F : Type 0} (o : Operations F) (code : CodeMeaning F) (m₀ : Meaning 
       sizes = c.sizes;
       right = λ i j s li lj q. (full, let v = cond-true (ltb i code.rows && ltb j code.nodes) (Some (code.symbol (data_of o.zero code xs) i j)) (m.symbol i j) (inside i j li lj) in let w : s ≡ code.symbol (data_of o.zero code xs) i j = cc in w ∙ ap (λ d. code.symbol d i j) (sym same));
       none = λ e. absurd (full_some _ full e);
-      spare_rows = λ i j li lj. let p = c.spare-rows i j li lj in (cond-false (ltb i code.rows && ltb j code.nodes) _ (m.symbol i j) (below i j li) ∙ p.0, p.1);
-      spare_nodes = λ i j lj. let p = c.spare-nodes i j lj in (cond-false (ltb i code.rows && ltb j code.nodes) _ (m.symbol i j) (and_false (ltb i code.rows) (ltb j code.nodes) (le-ltb j code.nodes lj)) ∙ p.0, p.1);
+      spare_rows = λ i j li lj. let p = c.spare_rows i j li lj in (cond-false (ltb i code.rows && ltb j code.nodes) _ (m.symbol i j) (below i j li) ∙ p.0, p.1);
+      spare_nodes = λ i j lj. let p = c.spare_nodes i j lj in (cond-false (ltb i code.rows && ltb j code.nodes) _ (m.symbol i j) (and_false (ltb i code.rows) (ltb j code.nodes) (le-ltb j code.nodes lj)) ∙ p.0, p.1);
       balance = omega (arith, c.balance);
     }
       where
@@ -247,8 +247,8 @@ module _ {F : Type 0} (o : Operations F) (code : CodeMeaning F) (m₀ : Meaning 
           sizes = c.sizes;
           right = c.right;
           none = c.none;
-          spare_rows = λ i j li lj. let p = c.spare-rows i j li lj in (p.0, spare_row_meter m _ inside i j li ∙ p.1);
-          spare_nodes = λ i j lj. let p = c.spare-nodes i j lj in (p.0, spare_node_meter m _ inside i j lj ∙ p.1);
+          spare_rows = λ i j li lj. let p = c.spare_rows i j li lj in (p.0, spare_row_meter m _ inside i j li ∙ p.1);
+          spare_nodes = λ i j lj. let p = c.spare_nodes i j lj in (p.0, spare_node_meter m _ inside i j lj ∙ p.1);
           balance = omega (arith, c.balance, read_meters m (fetch_recipe code m row column).entries fit v.inside);
         }
 
@@ -271,10 +271,10 @@ module _ {F : Type 0} (o : Operations F) (code : CodeMeaning F) (m₀ : Meaning 
       right = λ i j s li lj q. rights i j s li lj (ltb i code.rows && eqb j node) refl q;
       none = λ e. absurd (full_some _ full e);
       spare_rows = λ i j li lj.
-          let p = c.spare-rows i j li lj in
+          let p = c.spare_rows i j li lj in
           (cond-false (ltb i code.rows && eqb j node) _ (m.symbol i j) (ap (λ b. b && eqb j node) (le-ltb i code.rows li)) ∙ p.0, spare_row_meter m _ inside i j li ∙ p.1);
       spare_nodes = λ i j lj.
-          let p = c.spare-nodes i j lj in
+          let p = c.spare_nodes i j lj in
           (cond-false (ltb i code.rows && eqb j node) _ (m.symbol i j) (and_false (ltb i code.rows) (eqb j node) (ne_eqb j node (λ q. omega arith))) ∙ p.0, spare_node_meter m _ inside i j lj ∙ p.1);
       balance = let e : all_meters code (mended o.zero code m node) ≡ all_meters code m + length (mend_sheet code m node) = read_meters m (code.mend (blanks m) node).entries fit (recovers 0 laws.some_row).inside in omega (arith, c.balance);
     }
@@ -312,10 +312,10 @@ module _ {F : Type 0} (o : Operations F) (code : CodeMeaning F) (m₀ : Meaning 
       right = λ i j s li lj q. (full', rights i j s li lj (listed (put_places row column) (at i j)) refl q ∙ ap (λ d. code.symbol d i j) (sym same));
       none = λ e. absurd (full_some _ full' e);
       spare_rows = λ i j li lj.
-          let p = c.spare-rows i j li lj in
+          let p = c.spare_rows i j li lj in
           (cond-false (listed (put_places row column) (at i j)) _ (m.symbol i j) (unlisted_row (put_places row column) code.rows code.nodes i j w.inside li) ∙ p.0, spare_row_meter m (put_places row column) w.inside i j li ∙ p.1);
       spare_nodes = λ i j lj.
-          let p = c.spare-nodes i j lj in
+          let p = c.spare_nodes i j lj in
           (cond-false (listed (put_places row column) (at i j)) _ (m.symbol i j) (unlisted_node (put_places row column) code.rows code.nodes i j w.inside lj) ∙ p.0, spare_node_meter m (put_places row column) w.inside i j lj ∙ p.1);
       balance = omega (arith, c.balance, sums);
     }

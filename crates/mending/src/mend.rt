@@ -24,10 +24,10 @@ pub struct Mend {
 
 impl Mend {
     pub fn new<F: NumberedField>(parameters: Parameters, node: usize) -> Mend
-        requires room { parameters.k + parameters.a ≤ size }
+        requires room { parameters.k + parameters.a ≤ F.size }
         requires within { node < nodes parameters }
         ensures node { (result.sheet.parameters ≡ parameters) × (result.sheet.node ≡ node) }
-        ensures weights { MendingWeights F.Field.ops (numbered_of F.Field.ops.zero symbol) result.sheet.parameters result.sheet.node result.weights }
+        ensures weights { MendingWeights F.Field.ops (numbered_of F.Field.ops.zero F.symbol) result.sheet.parameters result.sheet.node result.weights }
     {
         let weights = mending_weights::<F>(parameters, node);
         Mend {
@@ -84,10 +84,10 @@ pub struct Column {
 
 impl Column {
     pub fn new<F: NumberedField>(parameters: Parameters, node: usize) -> Column
-        requires room { parameters.k + parameters.a ≤ size }
+        requires room { parameters.k + parameters.a ≤ F.size }
         requires within { node < nodes parameters }
         ensures node { (result.sheet.parameters ≡ parameters) × (result.sheet.node ≡ node) }
-        ensures weights { MakingWeights F.Field.ops (numbered_of F.Field.ops.zero symbol) result.sheet.parameters result.sheet.node result.weights }
+        ensures weights { MakingWeights F.Field.ops (numbered_of F.Field.ops.zero F.symbol) result.sheet.parameters result.sheet.node result.weights }
     {
         let weights = making_weights::<F>(parameters, node);
         Column {

@@ -19,10 +19,10 @@ pub(crate) fn data_symbol<F: NumberedField, T: Table<F>>(
     node: usize,
     row: usize,
 ) -> F
-    requires room { shape.k + shape.a ≤ size }
+    requires room { shape.k + shape.a ≤ F.size }
     requires within { (node < shape.k) × (row < shape.k) }
-    requires weights { Weighs F.Field.ops (numbered_of F.Field.ops.zero symbol) shape.k node node weights.now }
-    ensures { result ≡ recovered F.Field.ops (numbered_of F.Field.ops.zero symbol) shape (T.Table.held table.now) node row }
+    requires weights { Weighs F.Field.ops (numbered_of F.Field.ops.zero F.symbol) shape.k node node weights.now }
+    ensures { result ≡ recovered F.Field.ops (numbered_of F.Field.ops.zero F.symbol) shape (T.Table.held table.now) node row }
 {
     match shape.offset(row, node) {
         0 => weigh(weights, table, shape.k, node, node),
@@ -49,10 +49,10 @@ pub(crate) fn parity_symbol<F: NumberedField, T: Table<F>>(
     node: usize,
     row: usize,
 ) -> F
-    requires room { shape.k + shape.a ≤ size }
+    requires room { shape.k + shape.a ≤ F.size }
     requires within { (shape.k ≤ node) × (node < nodes shape) × (row < shape.k) }
-    requires weights { MakingWeights F.Field.ops (numbered_of F.Field.ops.zero symbol) shape node weights.now }
-    ensures { result ≡ array F.Field.ops (numbered_of F.Field.ops.zero symbol) shape (T.Table.held table.now) row node }
+    requires weights { MakingWeights F.Field.ops (numbered_of F.Field.ops.zero F.symbol) shape node weights.now }
+    ensures { result ≡ array F.Field.ops (numbered_of F.Field.ops.zero F.symbol) shape (T.Table.held table.now) row node }
 {
     if node < shape.first_step() {
         return weigh(weights, table, shape.k, shape.k, row);

@@ -10,8 +10,8 @@ use sheet::Table;
 
 // The weights at a node, from the nodes 0, .., k but `gap`.
 fn weights<F: NumberedField>(k: usize, gap: usize, node: usize) -> [usize; 32]
-    requires { (k < size) × (k ≤ 32) }
-    ensures { Weighs F.Field.ops (numbered_of F.Field.ops.zero symbol) k gap node result }
+    requires { (k < F.size) × (k ≤ 32) }
+    ensures { Weighs F.Field.ops (numbered_of F.Field.ops.zero F.symbol) k gap node result }
 {
     let point = numbered::<F>(node);
     let mut weights = [0usize; 32];
@@ -23,8 +23,8 @@ fn weights<F: NumberedField>(k: usize, gap: usize, node: usize) -> [usize; 32]
 
 // The weights that the symbols of a node are made with.
 pub(crate) fn making_weights<F: NumberedField>(parameters: Parameters, node: usize) -> [usize; 32]
-    requires { parameters.k < size }
-    ensures { MakingWeights F.Field.ops (numbered_of F.Field.ops.zero symbol) parameters node result }
+    requires { parameters.k < F.size }
+    ensures { MakingWeights F.Field.ops (numbered_of F.Field.ops.zero F.symbol) parameters node result }
 {
     if node < parameters.k || parameters.k + parameters.a <= node {
         [0usize; 32]
@@ -35,8 +35,8 @@ pub(crate) fn making_weights<F: NumberedField>(parameters: Parameters, node: usi
 
 // The weights that the symbols of a node are mended with.
 pub(crate) fn mending_weights<F: NumberedField>(parameters: Parameters, node: usize) -> [usize; 32]
-    requires { parameters.k < size }
-    ensures { MendingWeights F.Field.ops (numbered_of F.Field.ops.zero symbol) parameters node result }
+    requires { parameters.k < F.size }
+    ensures { MendingWeights F.Field.ops (numbered_of F.Field.ops.zero F.symbol) parameters node result }
 {
     if node < parameters.k {
         weights::<F>(parameters.k, node, node)
@@ -54,7 +54,7 @@ pub(crate) fn weigh<F: NumberedField, T: Table<F>>(
     row: usize,
 ) -> F
     requires { k ≤ 32 }
-    ensures { result ≡ weighed F.Field.ops (numbered_of F.Field.ops.zero symbol) weights.now k gap (T.Table.held table.now) row }
+    ensures { result ≡ weighed F.Field.ops (numbered_of F.Field.ops.zero F.symbol) weights.now k gap (T.Table.held table.now) row }
 {
     let mut total = F::zero();
     for l in 0..k {

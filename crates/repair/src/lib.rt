@@ -25,7 +25,7 @@ pub use fault::{Made, MakeFault};
 
 // The two-class code keeps the laws of a code.
 pub fn code_stands<F: NumberedField>() -> u8
-    ensures { (p : Shape) → p.k + p.a ≤ size → CodeLaws F.Field.ops (two_class_lem F.Field.ops (numbered_of F.Field.ops.zero symbol) p) }
+    ensures { (p : Shape) → p.k + p.a ≤ F.size → CodeLaws F.Field.ops (two_class_lem F.Field.ops (numbered_of F.Field.ops.zero F.symbol) p) }
 {
     0
 }

@@ -14,7 +14,7 @@ pub use fault::RowFault;
 
 // The symbol numbered n (zero where there is none).
 pub fn numbered<F: NumberedField>(n: usize) -> F
-    ensures { result ≡ numbered_of F.Field.ops.zero symbol n }
+    ensures { result ≡ numbered_of F.Field.ops.zero F.symbol n }
 {
     match F::symbol(n) {
         Some(u) => u,
@@ -24,7 +24,7 @@ pub fn numbered<F: NumberedField>(n: usize) -> F
 
 // The product of `x` less each of the first k symbols but the one numbered `skipped`.
 fn data_others<F: NumberedField>(k: usize, skipped: usize, x: F) -> F
-    ensures { result ≡ others F.Field.ops (stands F.Field.ops symbol) k skipped x }
+    ensures { result ≡ others F.Field.ops (stands F.Field.ops F.symbol) k skipped x }
 {
     let mut result = F::one();
     for m in 0..k {
@@ -37,7 +37,7 @@ fn data_others<F: NumberedField>(k: usize, skipped: usize, x: F) -> F
 
 // What the data symbol j of k counts at number m.
 fn data_weight<F: NumberedField>(k: usize, j: usize, m: usize) -> F
-    ensures { result ≡ weight_of F.Field.ops symbol k j m }
+    ensures { result ≡ weight_of F.Field.ops F.symbol k j m }
 {
     let above: F = data_others(k, j, numbered(m));
     let below: F = data_others(k, j, numbered(j));
@@ -46,7 +46,7 @@ fn data_weight<F: NumberedField>(k: usize, j: usize, m: usize) -> F
 
 // The product of `x` less each of the listed numbers' symbols but the one listed at `skipped`.
 fn listed_others<F: NumberedField>(numbers: &[usize], skipped: usize, x: F) -> F
-    ensures { result ≡ others F.Field.ops (points F.Field.ops symbol numbers.now) (length numbers.now) skipped x }
+    ensures { result ≡ others F.Field.ops (points F.Field.ops F.symbol numbers.now) (length numbers.now) skipped x }
 {
     let mut result = F::one();
     for (m, number) in numbers.iter().enumerate() {
@@ -59,7 +59,7 @@ fn listed_others<F: NumberedField>(numbers: &[usize], skipped: usize, x: F) -> F
 
 // What the symbol at the number listed at l counts at number m; a place past the list counts nothing.
 fn listed_weight_at<F: NumberedField>(numbers: &[usize], l: usize, m: usize) -> F
-    ensures { result ≡ listed_weight F.Field.ops symbol numbers.now m l }
+    ensures { result ≡ listed_weight F.Field.ops F.symbol numbers.now m l }
 {
     if l >= numbers.len() {
         return F::zero();
@@ -71,7 +71,7 @@ fn listed_weight_at<F: NumberedField>(numbers: &[usize], l: usize, m: usize) -> 
 
 // Lagrange's formula at number m, over the data.
 fn data_formula<F: NumberedField>(symbols: &[F], m: usize) -> F
-    ensures { result ≡ row_symbol F.Field.ops symbol symbols.now m }
+    ensures { result ≡ row_symbol F.Field.ops F.symbol symbols.now m }
 {
     let mut total = F::zero();
     for (j, given) in symbols.iter().enumerate() {
@@ -82,8 +82,8 @@ fn data_formula<F: NumberedField>(symbols: &[F], m: usize) -> F
 
 // The row's symbol at number m: the value, at the symbol numbered m, of the polynomial of the row.
 pub fn row_symbol<F: NumberedField>(symbols: &[F], m: usize) -> Result<F, RowFault>
-    ensures answer { result ≡ symbol_answer F.Field.ops size symbol symbols.now m }
-    ensures rule { length symbols.now ≤ size → RowRule F.Field.ops symbol symbols.now }
+    ensures answer { result ≡ symbol_answer F.Field.ops F.size F.symbol symbols.now m }
+    ensures rule { length symbols.now ≤ F.size → RowRule F.Field.ops F.symbol symbols.now }
 {
     if symbols.len() > F::size() {
         return Err(RowFault::TooMany);
@@ -96,7 +96,7 @@ pub fn row_symbol<F: NumberedField>(symbols: &[F], m: usize) -> Result<F, RowFau
 
 // What the data symbol j of k counts at number m.
 pub fn weight<F: NumberedField>(k: usize, j: usize, m: usize) -> Result<F, RowFault>
-    ensures { result ≡ weight_answer F.Field.ops size symbol k j m }
+    ensures { result ≡ weight_answer F.Field.ops F.size F.symbol k j m }
 {
     if k > F::size() {
         return Err(RowFault::TooMany);
@@ -113,7 +113,7 @@ pub fn weight<F: NumberedField>(k: usize, j: usize, m: usize) -> Result<F, RowFa
 // The row's symbol at a number after one data symbol is replaced, from the one before and the data symbol's weight there.
 pub fn replaced<F: NumberedField>(weight: F, old: F, new: F, before: F) -> F
     ensures answer { result ≡ F.Field.ops.sum before (F.Field.ops.product (F.Field.ops.difference new old) weight) }
-    ensures replaces { Replacing F.Field.ops size symbol weight old new before result }
+    ensures replaces { Replacing F.Field.ops F.size F.symbol weight old new before result }
 {
     before.sum(new.difference(old).product(weight))
 }
@@ -157,7 +157,7 @@ fn is_beyond(size: usize, numbers: &[usize]) -> bool
 // Lagrange's formula at number m, over the symbols at the listed numbers.
 fn listed_formula<F: NumberedField>(numbers: &[usize], values: &[F], m: usize) -> F
     requires { length numbers.now ≡ length values.now }
-    ensures { result ≡ rebuilt F.Field.ops symbol numbers.now values.now m }
+    ensures { result ≡ rebuilt F.Field.ops F.symbol numbers.now values.now m }
 {
     let mut total = F::zero();
     for (l, given) in values.iter().enumerate() {
@@ -168,8 +168,8 @@ fn listed_formula<F: NumberedField>(numbers: &[usize], values: &[F], m: usize) -
 
 // The row's symbol at number m, from its symbols at any k different numbers.
 pub fn rebuild<F: NumberedField>(numbers: &[usize], values: &[F], m: usize) -> Result<F, RowFault>
-    ensures answer { result ≡ rebuild_answer F.Field.ops size symbol numbers.now values.now m }
-    ensures any { AnyGiveAll F.Field.ops size symbol numbers.now values.now m result }
+    ensures answer { result ≡ rebuild_answer F.Field.ops F.size F.symbol numbers.now values.now m }
+    ensures any { AnyGiveAll F.Field.ops F.size F.symbol numbers.now values.now m result }
 {
     if numbers.len() != values.len() {
         return Err(RowFault::Uneven);
@@ -185,8 +185,8 @@ pub fn rebuild<F: NumberedField>(numbers: &[usize], values: &[F], m: usize) -> R
 
 // Stores what each of the k data symbols counts at number m, k being the length of `out`.
 pub fn data_weights_into<F: NumberedField>(m: usize, out: &mut [F])
-    ensures weights { out.new ≡ data_weights F.Field.ops symbol (length out.old) m }
-    ensures serve { ServeData F.Field.ops symbol m out.new }
+    ensures weights { out.new ≡ data_weights F.Field.ops F.symbol (length out.old) m }
+    ensures serve { ServeData F.Field.ops F.symbol m out.new }
 {
     let k = out.len();
     for j in 0..k {
@@ -196,8 +196,8 @@ pub fn data_weights_into<F: NumberedField>(m: usize, out: &mut [F])
 
 // Stores what each symbol at the listed numbers counts at number m; past the list, zero.
 pub fn weights_into<F: NumberedField>(numbers: &[usize], m: usize, out: &mut [F])
-    ensures weights { out.new ≡ listed_weights F.Field.ops symbol numbers.now m (length out.old) }
-    ensures serve { ServeListed F.Field.ops size symbol numbers.now m out.new }
+    ensures weights { out.new ≡ listed_weights F.Field.ops F.symbol numbers.now m (length out.old) }
+    ensures serve { ServeListed F.Field.ops F.size F.symbol numbers.now m out.new }
 {
     let n = out.len();
     for l in 0..n {
@@ -207,7 +207,7 @@ pub fn weights_into<F: NumberedField>(numbers: &[usize], m: usize, out: &mut [F]
 
 // The symbol at place l, or zero past the end.
 fn at_or_zero<F: Field>(symbols: &[F], l: usize) -> F
-    ensures { result ≡ slice_index_or symbols.now l ops.zero }
+    ensures { result ≡ slice_index_or symbols.now l F.ops.zero }
 {
     if l < symbols.len() {
         symbols[l]
@@ -218,7 +218,7 @@ fn at_or_zero<F: Field>(symbols: &[F], l: usize) -> F
 
 // The sum of the values, each times its weight; a value that is missing counts as zero.
 pub fn weigh<F: Field>(weights: &[F], values: &[F]) -> F
-    ensures { result ≡ weighed ops weights.now values.now }
+    ensures { result ≡ weighed F.ops weights.now values.now }
 {
     let mut total = F::zero();
     for (l, weight) in weights.iter().enumerate() {

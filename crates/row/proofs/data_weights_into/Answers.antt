@@ -10,7 +10,7 @@ pub loop-j-preserved : goal.loop-j-preserved
 loop-j-preserved g c =
     let o = g.F.Field.ops in
     let f : ℕ → g.row.F.Denot = λ i. weight_of o g.F.NumberedField.symbol (length c.args.out.now) i c.args.m in
-    subst (λ v. (i : ℕ) → i < c.loop-j.j + 1 → get_or (set c.loop-j.out c.loop-j.j v) i o.zero ≡ f i) (sym c.data-weight.ensures)
+    subst (λ v. (i : ℕ) → i < c.loop-j.j + 1 → get_or (set c.loop-j.out c.loop-j.j v) i o.zero ≡ f i) (sym c.data_weight.ensures)
     (fill_by_more f c.loop-j.out c.loop-j.j o.zero (omega arith) c.loop-j.invariant)
 
 pub returns : goal.returns

@@ -9,14 +9,14 @@ loop-i-preserved c =
     let ns = c.args.numbers.now in
     let i = c.loop-i.i in
     c.loop-i.invariant ∙ repeated_more ns i c.loop-i-test.true
-    (sym (ap (listed (get_or ns i 0)) (take_rest ns (i + 1))) ∙ sym c.is-listed.ensures ∙ c.if-is-listed.false)
+    (sym (ap (listed (get_or ns i 0)) (take_rest ns (i + 1))) ∙ sym c.is_listed.ensures ∙ c.if-is_listed.false)
 
-pub returns-then-is-listed : goal.returns-then-is-listed
-returns-then-is-listed c =
+pub returns-then-is_listed : goal.returns-then-is_listed
+returns-then-is_listed c =
     let ns = c.args.numbers.now in
     let i = c.loop-i.i in
     sym (c.loop-i.invariant ∙ repeated_here ns i c.loop-i-test.true
-    (sym (ap (listed (get_or ns i 0)) (take_rest ns (i + 1))) ∙ sym c.is-listed.ensures ∙ c.if-is-listed.true))
+    (sym (ap (listed (get_or ns i 0)) (take_rest ns (i + 1))) ∙ sym c.is_listed.ensures ∙ c.if-is_listed.true))
 
 pub returns : goal.returns
 returns c = sym (c.loop-i.invariant ∙ at_drop_all repeated c.args.numbers.now c.loop-i.i c.loop-i-test.false)

@@ -31,6 +31,6 @@ returns g c =
     let h : k ≤ size = omega arith in
     let b : c.args.m < size = omega arith in
     record {
-      answer = ap Ok c.data-formula.ensures ∙ sym (cond-false (ltb size k) _ _ (le-ltb size k h) ∙ cond-true (ltb c.args.m size) _ _ (lt-ltb c.args.m size b));
+      answer = ap Ok c.data_formula.ensures ∙ sym (cond-false (ltb size k) _ _ (le-ltb size k h) ∙ cond-true (ltb c.args.m size) _ _ (lt-ltb c.args.m size b));
       rule = rule g.met.F.Field.laws g.met.F.NumberedField.numbering c.args.symbols.now;
     }

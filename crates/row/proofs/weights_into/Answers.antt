@@ -9,7 +9,7 @@ pub loop-l-preserved : goal.loop-l-preserved
 loop-l-preserved g c =
     let o = g.F.Field.ops in
     let f = listed_weight o g.F.NumberedField.symbol c.args.numbers.now c.args.m in
-    subst (λ v. (i : ℕ) → i < c.loop-l.l + 1 → get_or (set c.loop-l.out c.loop-l.l v) i o.zero ≡ f i) (sym c.listed-weight-at.ensures)
+    subst (λ v. (i : ℕ) → i < c.loop-l.l + 1 → get_or (set c.loop-l.out c.loop-l.l v) i o.zero ≡ f i) (sym c.listed_weight_at.ensures)
     (fill_by_more f c.loop-l.out c.loop-l.l o.zero (omega arith) c.loop-l.invariant)
 
 pub returns : goal.returns

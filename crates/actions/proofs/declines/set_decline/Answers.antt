@@ -6,8 +6,8 @@ use Rattle.actions.proofs.declines.set_decline.Goals as goal
 pub returns-in-Some : goal.returns-in-Some
 returns-in-Some g c = set_stop g.F.NumberedField.size (g.C.Code.code c.args.code.now) (g.S.Store.meaning c.args.store.now) c.args.length c.in-Some.reason c.in-Some.ensures
 
-pub overflow-mul-rows : goal.overflow-mul-rows
-overflow-mul-rows g c =
+pub overflow_mul-rows : goal.overflow_mul-rows
+overflow_mul-rows g c =
     let k = (g.C.Code.code c.args.code.now) in
     let m = (g.S.Store.meaning c.args.store.now) in
     let p = suited_passed g.F.NumberedField.size (g.C.Code.code c.args.code.now) (g.S.Store.meaning c.args.store.now) None (sym c.in-None.ensures) in

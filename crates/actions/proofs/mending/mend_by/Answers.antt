@@ -8,16 +8,16 @@ use Rattle.reading.proofs.Checking.{checked_clear}
 use Rattle.actions.proofs.Exits.{sheet_unread, sheet_read, memory_kept, memory_wiped, raised_sizes}
 use Rattle.actions.proofs.mending.mend_by.Goals as goal
 
-pub returns-in-err-check : goal.returns-in-err-check
-returns-in-err-check g c =
-    let p = err_from_is_err_and c.from-residual.result c.from-residual.ensures.1 in
+pub returns-in_err-check : goal.returns-in_err-check
+returns-in_err-check g c =
+    let p = err_from_is_err_and c.from_residual.result c.from_residual.ensures.1 in
     record {
-      done = sheet_unread Mend (g.S.Store.meaning c.args.store.now) (g.P.Listing.entries c.args.plan.now) _ _ c.requires.inside c.in-err-check.field-0.0 c.from-residual.result (g.S.Store.meaning c.args.store.now) c.in-err-check.ensures (p.1 ∙ ap Err p.2) refl;
-      memory = memory_kept g.F.Field.ops.zero p.0 c.from-residual.result c.args.memory.now p.1;
+      done = sheet_unread Mend (g.S.Store.meaning c.args.store.now) (g.P.Listing.entries c.args.plan.now) _ _ c.requires.inside c.in_err-check.field-0.0 c.from_residual.result (g.S.Store.meaning c.args.store.now) c.in_err-check.ensures (p.1 ∙ ap Err p.2) refl;
+      memory = memory_kept g.F.Field.ops.zero p.0 c.from_residual.result c.args.memory.now p.1;
     }
 
 pub gather-count-requires : goal.gather-count-requires
-gather-count-requires g c = record { clear = checked_clear Mend (g.S.Store.meaning c.args.store.now) (g.P.Listing.entries c.args.plan.now) (sym c.in-ok-check.ensures); slots = c.requires.slots }
+gather-count-requires g c = record { clear = checked_clear Mend (g.S.Store.meaning c.args.store.now) (g.P.Listing.entries c.args.plan.now) (sym c.in_ok-check.ensures); slots = c.requires.slots }
 
 pub rebuild-requires : goal.rebuild-requires
 rebuild-requires g c =
@@ -29,7 +29,7 @@ unfolding given_by
 returns g c =
     let z = g.F.Field.ops.zero in
     record {
-      done = sheet_read Mend (g.S.Store.meaning c.args.store.now) (g.P.Listing.entries c.args.plan.now) _ _ _ (g.S.Store.meaning c.rebuild.new.store) c.in-ok-check.ensures (ap Ok c.gather-count.ensures.count)
+      done = sheet_read Mend (g.S.Store.meaning c.args.store.now) (g.P.Listing.entries c.args.plan.now) _ _ _ (g.S.Store.meaning c.rebuild.new.store) c.in_ok-check.ensures (ap Ok c.gather-count.ensures.count)
           (c.rebuild.ensures ∙ ap₂ (λ x t. painted x (in_node c.args.rows c.args.node) (λ i _. g.P.Solver.solved c.args.plan.now t i)) c.gather-count.ensures.leaves c.gather-count.ensures.table);
       memory = memory_wiped z _ _ c.args.memory.now c.gather-count.new.memory c.wipe.new.memory refl c.wipe.ensures c.gather-count.auto.memory;
     }

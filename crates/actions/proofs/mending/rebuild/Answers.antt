@@ -1,8 +1,8 @@
 use Rattle.std.proofs.Common.{◌≡◌, true, false, ◌&&◌, ◌⊎◌, sym, refl, ap, ◌∙◌, subst, ap₂, inl, inr, arith}
 use Rattle.actions.proofs.mending.rebuild.Goals as goal
 
-pub write-node-requires : goal.write-node-requires
-write-node-requires g c = record { room = c.requires.room; ready = c.requires.ready }
+pub write_node-requires : goal.write_node-requires
+write_node-requires g c = record { room = c.requires.room; ready = c.requires.ready }
 
 pub returns : goal.returns
-returns g c = c.write-node.ensures
+returns g c = c.write_node.ensures

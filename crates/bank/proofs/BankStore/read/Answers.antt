@@ -3,15 +3,15 @@ use Rattle.bank.proofs.Calls.{answered_in, leaves_read, beyond_read}
 use Rattle.bank.proofs.BankStore.read.Goals as goal
 
 pub get-cell-requires : goal.get-cell-requires
-get-cell-requires g c = answered_in c.args.self.now c.args.row c.args.node _ c.in-ok-x.ensures
+get-cell-requires g c = answered_in c.args.self.now c.args.row c.args.node _ c.in_ok-x.ensures
 
 pub put-requires : goal.put-requires
-put-requires g c = answered_in c.args.self.now c.args.row c.args.node _ c.in-ok-x.ensures
+put-requires g c = answered_in c.args.self.now c.args.row c.args.node _ c.in_ok-x.ensures
 
 pub returns : goal.returns
 returns g c =
     let b = c.args.self.now in
-    let e = c.in-ok-x.ensures in
+    let e = c.in_ok-x.ensures in
     let after = c.put.new.self.cells.now in
     record {
       answers = e;

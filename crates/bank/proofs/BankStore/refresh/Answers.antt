@@ -18,8 +18,8 @@ worn-sum-requires g c = let b = c.args.self.now in let r = run_in b c.args.node 
 pub refresh-requires : goal.refresh-requires
 refresh-requires g c = let r = run_in c.args.self.now c.args.node c.if-node-self.false in omega arith
 
-pub invariant-of-self : goal.invariant-of-self
-invariant-of-self g c = (fits_still c.args.self.now c.args.node c.if-node-self.false c.refresh.new.self.cells.now c.refresh.ensures.long, tt)
+pub invariant_of-self : goal.invariant_of-self
+invariant_of-self g c = (fits_still c.args.self.now c.args.node c.if-node-self.false c.refresh.new.self.cells.now c.refresh.ensures.long, tt)
 
 pub returns : goal.returns
 returns g c =

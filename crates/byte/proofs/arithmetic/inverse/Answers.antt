@@ -11,8 +11,8 @@ pub returns : goal.returns
 returns c =
     let a = c.args.a in
     let h : a < 256 = omega arith in
-    let exponent = c.exponent-of.ensures in
-    let e = c.power-at.ensures ∙ sym (inverse_power a c.exponent-of.result h exponent.exponent exponent.low) in record {
+    let exponent = c.exponent_of.ensures in
+    let e = c.power_at.ensures ∙ sym (inverse_power a c.exponent_of.result h exponent.exponent exponent.low) in record {
       inverse = e;
       undoes = λ n. ap (byte_product a) e ∙ product_inverse a h n;
       zero = λ z. absurd (c.if-a-eq0.false z);

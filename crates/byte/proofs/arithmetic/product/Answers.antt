@@ -18,9 +18,9 @@ pub returns : goal.returns
 returns c =
     let a = c.args.a in
     let b = c.args.b in
-    let i = c.exponent-of.ensures.exponent in
-    let j = c.exponent-of-2.ensures.exponent in
-    let e = c.power-at.ensures ∙ sym (power_product a b c.exponent-of.result c.exponent-of-2.result (omega arith) i j) in record {
+    let i = c.exponent_of.ensures.exponent in
+    let j = c.exponent_of-2.ensures.exponent in
+    let e = c.power_at.ensures ∙ sym (power_product a b c.exponent_of.result c.exponent_of-2.result (omega arith) i j) in record {
       product = e;
       remainder = subst (TheRemainder (multiply 8 a b)) (sym e) (the_remainder a b (omega arith));
     }

@@ -5,9 +5,9 @@ use Rattle.desk.proofs.serving.served.Goals as goal
 
 pub returns : goal.returns
 returns g c =
-    let e = c.as-mut-slice.ensures in
+    let e = c.as_mut_slice.ensures in
     let p = c.serve.ensures in
     record {
       serving = at_room _ _ _ _ _ _ _ _ _ _ (ap length e.value) (record { step = p.step; history = p.history; sized = p.sized });
-      long = as_long c.args.memory.now c.as-mut-slice.result.now c.serve.new.memory e.value c.serve.auto.memory e.len;
+      long = as_long c.args.memory.now c.as_mut_slice.result.now c.serve.new.memory e.value c.serve.auto.memory e.len;
     }

@@ -17,45 +17,45 @@ returns-in-Some g c =
       memory = memory_kept g.F.Field.ops.zero _ _ c.args.memory.now refl;
     }
 
-pub is-blank-requires : goal.is-blank-requires
-is-blank-requires g c =
+pub is_blank-requires : goal.is_blank-requires
+is_blank-requires g c =
     let q = fetch_on g.F.NumberedField.size (g.C.Code.code c.args.self.now.code) (g.S.Store.meaning c.args.store.now) c.args.row c.args.column (length c.args.memory.now) c.in-None.ensures in
     let wide = ((g.met.C.Code.lawful c.args.self.now.code) q.0).wide in
     fits_on (g.C.Code.code c.args.self.now.code) (g.S.Store.meaning c.args.store.now) c.args.row c.args.column q.1 q.2 (omega (arith, q.3, wide))
 
-pub fetch-plan-plan-requires : goal.fetch-plan-plan-requires
-fetch-plan-plan-requires g c =
+pub fetch_plan-plan-requires : goal.fetch_plan-plan-requires
+fetch_plan-plan-requires g c =
     let q = fetch_on g.F.NumberedField.size (g.C.Code.code c.args.self.now.code) (g.S.Store.meaning c.args.store.now) c.args.row c.args.column (length c.args.memory.now) c.in-None.ensures in
     record { fine = q.0; room = fits_parts (g.C.Code.code c.args.self.now.code) (g.S.Store.meaning c.args.store.now) q.1; place = (q.2, q.3) }
 
-pub fetch-by-requires : goal.fetch-by-requires
-fetch-by-requires g c =
+pub fetch_by-requires : goal.fetch_by-requires
+fetch_by-requires g c =
     let q = fetch_on g.F.NumberedField.size (g.C.Code.code c.args.self.now.code) (g.S.Store.meaning c.args.store.now) c.args.row c.args.column (length c.args.memory.now) c.in-None.ensures in
     let v = ((g.met.C.Code.lawful c.args.self.now.code) q.0).fetches (blanks (g.S.Store.meaning c.args.store.now)) c.args.row c.args.column q.2 q.3 in
     record {
-      inside = λ i j l. let b = v.inside i j (ap (λ es. listed (places_of es) (at i j)) (sym c.fetch-plan-plan.ensures.entries) ∙ l) in fits_on (g.C.Code.code c.args.self.now.code) (g.S.Store.meaning c.args.store.now) i j q.1 b.0 b.1;
-      slots = slotted_more (g.Plan.Listing.entries c.fetch-plan-plan.result) (g.Plan.ReadPlan.slot c.fetch-plan-plan.result) (g.C.Code.code c.args.self.now.code).fetch_room (length c.args.memory.now) q.4 c.fetch-plan-plan.ensures.slots;
-      ready = c.fetch-plan-plan.ensures.ready;
+      inside = λ i j l. let b = v.inside i j (ap (λ es. listed (places_of es) (at i j)) (sym c.fetch_plan-plan.ensures.entries) ∙ l) in fits_on (g.C.Code.code c.args.self.now.code) (g.S.Store.meaning c.args.store.now) i j q.1 b.0 b.1;
+      slots = slotted_more (g.Plan.Listing.entries c.fetch_plan-plan.result) (g.Plan.ReadPlan.slot c.fetch_plan-plan.result) (g.C.Code.code c.args.self.now.code).fetch_room (length c.args.memory.now) q.4 c.fetch_plan-plan.ensures.slots;
+      ready = c.fetch_plan-plan.ensures.ready;
     }
 
-pub fetch-held-requires : goal.fetch-held-requires
-fetch-held-requires g c =
+pub fetch_held-requires : goal.fetch_held-requires
+fetch_held-requires g c =
     let q = fetch_on g.F.NumberedField.size (g.C.Code.code c.args.self.now.code) (g.S.Store.meaning c.args.store.now) c.args.row c.args.column (length c.args.memory.now) c.in-None.ensures in
     let wide = ((g.met.C.Code.lawful c.args.self.now.code) q.0).wide in
     fits_on (g.C.Code.code c.args.self.now.code) (g.S.Store.meaning c.args.store.now) c.args.row c.args.column q.1 q.2 (omega (arith, q.3, wide))
 
-pub returns-then-is-blank : goal.returns-then-is-blank
+pub returns-then-is_blank : goal.returns-then-is_blank
 unfolding FetchDone
-returns-then-is-blank g c =
+returns-then-is_blank g c =
     record {
-      done = fetch_blank g.F.Field.ops.zero (g.C.Code.code c.args.self.now.code) (g.S.Store.meaning c.args.store.now) c.args.row c.args.column (fetch_decline g.F.NumberedField.size (g.C.Code.code c.args.self.now.code) (g.S.Store.meaning c.args.store.now) c.args.row c.args.column (length c.args.memory.now)) c.in-None.ensures c.fetch-by.result (g.S.Store.meaning c.fetch-by.new.store) (sym c.if-is-blank.ensures) (g.Plan.Listing.entries c.fetch-plan-plan.result) (g.Plan.Solver.solved c.fetch-plan-plan.result) c.fetch-plan-plan.ensures.entries c.fetch-plan-plan.ensures.solved c.fetch-by.ensures.done;
-      memory = c.fetch-by.ensures.memory;
+      done = fetch_blank g.F.Field.ops.zero (g.C.Code.code c.args.self.now.code) (g.S.Store.meaning c.args.store.now) c.args.row c.args.column (fetch_decline g.F.NumberedField.size (g.C.Code.code c.args.self.now.code) (g.S.Store.meaning c.args.store.now) c.args.row c.args.column (length c.args.memory.now)) c.in-None.ensures c.fetch_by.result (g.S.Store.meaning c.fetch_by.new.store) (sym c.if-is_blank.ensures) (g.Plan.Listing.entries c.fetch_plan-plan.result) (g.Plan.Solver.solved c.fetch_plan-plan.result) c.fetch_plan-plan.ensures.entries c.fetch_plan-plan.ensures.solved c.fetch_by.ensures.done;
+      memory = c.fetch_by.ensures.memory;
     }
 
-pub returns-else-is-blank : goal.returns-else-is-blank
+pub returns-else-is_blank : goal.returns-else-is_blank
 unfolding FetchDone
-returns-else-is-blank g c =
+returns-else-is_blank g c =
     record {
-      done = fetch_held g.F.Field.ops.zero (g.C.Code.code c.args.self.now.code) (g.S.Store.meaning c.args.store.now) c.args.row c.args.column (fetch_decline g.F.NumberedField.size (g.C.Code.code c.args.self.now.code) (g.S.Store.meaning c.args.store.now) c.args.row c.args.column (length c.args.memory.now)) c.in-None.ensures c.fetch-held.result (g.S.Store.meaning c.fetch-held.new.store) (sym c.if-is-blank.ensures) c.fetch-held.ensures.done;
-      memory = c.fetch-held.ensures.memory;
+      done = fetch_held g.F.Field.ops.zero (g.C.Code.code c.args.self.now.code) (g.S.Store.meaning c.args.store.now) c.args.row c.args.column (fetch_decline g.F.NumberedField.size (g.C.Code.code c.args.self.now.code) (g.S.Store.meaning c.args.store.now) c.args.row c.args.column (length c.args.memory.now)) c.in-None.ensures c.fetch_held.result (g.S.Store.meaning c.fetch_held.new.store) (sym c.if-is_blank.ensures) c.fetch_held.ensures.done;
+      memory = c.fetch_held.ensures.memory;
     }

@@ -20,8 +20,8 @@ worn-sum-requires g c = let s = c.args.self.now in let r = run_in g.F.NumberedFi
 pub clear-requires : goal.clear-requires
 clear-requires g c = let s = c.args.self.now in let r = run_in g.F.NumberedField.symbol s c.args.node c.if-node-self.false in omega (arith, s.shape.fewrows)
 
-pub invariant-of-self : goal.invariant-of-self
-invariant-of-self g c = (fits_still g.F.NumberedField.symbol c.args.self.now c.args.node c.if-node-self.false c.clear.new.self.bytes.now c.clear.ensures.long, tt)
+pub invariant_of-self : goal.invariant_of-self
+invariant_of-self g c = (fits_still g.F.NumberedField.symbol c.args.self.now c.args.node c.if-node-self.false c.clear.new.self.bytes.now c.clear.ensures.long, tt)
 
 pub returns : goal.returns
 returns g c =

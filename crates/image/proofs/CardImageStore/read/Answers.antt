@@ -4,15 +4,15 @@ use Rattle.image.proofs.Calls.{answered_in, leaves_read, beyond_read}
 use Rattle.image.proofs.CardImageStore.read.Goals as goal
 
 pub get-r-requires : goal.get-r-requires
-get-r-requires g c = answered_in g.F.NumberedField.symbol c.args.self.now c.args.row c.args.node _ c.in-ok-x.ensures
+get-r-requires g c = answered_in g.F.NumberedField.symbol c.args.self.now c.args.row c.args.node _ c.in_ok-x.ensures
 
 pub put-requires : goal.put-requires
-put-requires g c = answered_in g.F.NumberedField.symbol c.args.self.now c.args.row c.args.node _ c.in-ok-x.ensures
+put-requires g c = answered_in g.F.NumberedField.symbol c.args.self.now c.args.row c.args.node _ c.in_ok-x.ensures
 
 pub returns : goal.returns
 returns g c =
     let s = c.args.self.now in
-    let e = c.in-ok-x.ensures in
+    let e = c.in_ok-x.ensures in
     let after = c.put.new.self.bytes.now in
     record {
       answers = e;

@@ -10,13 +10,13 @@ use Rattle.kept.proofs.cells.write_in.Goals as goal
 pub returns : goal.returns
 returns g c =
     let v = c.args.cells.now in
-    let e = c.as-mut-slice.ensures in
-    let s = c.as-mut-slice.result.now in
+    let e = c.as_mut_slice.ensures in
+    let s = c.as_mut_slice.result.now in
     let a = c.put.new.cells in
     let k = c.put.auto.cells in
     let i = c.args.row in
     let j = c.args.node in
-    let same = c.as-slice.ensures.value ∙ sym e.value in
+    let same = c.as_slice.ensures.value ∙ sym e.value in
     let l = ap length e.value in
     record {
       answers = grind (arith, nat_tests);

@@ -5,13 +5,13 @@ use Rattle.reading.specs.Checks.{checked}
 use Rattle.reading.proofs.Checking.{check_pass, check_stop}
 use Rattle.reading.proofs.checks.check.Goals as goal
 
-pub returns-in-err-probe-entry : goal.returns-in-err-probe-entry
-returns-in-err-probe-entry g c =
-    let p = err_from_is_err_and c.from-residual.result c.from-residual.ensures.1 in
-    p.1 ∙ ap Err p.2 ∙ sym (check_stop c.args.call (g.S.Store.meaning c.args.store.now) (g.L.Listing.entries c.args.listing.now) c.loop-i.i c.at.result (omega arith) c.at.ensures c.in-err-probe-entry.field-0.0 c.in-err-probe-entry.ensures) ∙ c.loop-i.invariant
+pub returns-in_err-probe_entry : goal.returns-in_err-probe_entry
+returns-in_err-probe_entry g c =
+    let p = err_from_is_err_and c.from_residual.result c.from_residual.ensures.1 in
+    p.1 ∙ ap Err p.2 ∙ sym (check_stop c.args.call (g.S.Store.meaning c.args.store.now) (g.L.Listing.entries c.args.listing.now) c.loop-i.i c.at.result (omega arith) c.at.ensures c.in_err-probe_entry.field-0.0 c.in_err-probe_entry.ensures) ∙ c.loop-i.invariant
 
 pub loop-i-preserved : goal.loop-i-preserved
-loop-i-preserved g c = sym (check_pass c.args.call (g.S.Store.meaning c.args.store.now) (g.L.Listing.entries c.args.listing.now) c.loop-i.i c.at.result (omega arith) c.at.ensures c.in-ok-probe-entry.ensures) ∙ c.loop-i.invariant
+loop-i-preserved g c = sym (check_pass c.args.call (g.S.Store.meaning c.args.store.now) (g.L.Listing.entries c.args.listing.now) c.loop-i.i c.at.result (omega arith) c.at.ensures c.in_ok-probe_entry.ensures) ∙ c.loop-i.invariant
 
 pub returns : goal.returns
 unfolding checked

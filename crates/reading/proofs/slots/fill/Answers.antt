@@ -26,8 +26,8 @@ keeps-requires-in-loop-i g c =
     let l = slot_in z m₀ few slot es c.requires.clear c.loop-i.i p lt here (g.S.Store.meaning c.loop-i.store) c.loop-i.memory slots c.loop-i.count c.loop-i.invariant in
     omega (arith, c.slot-slot.ensures)
 
-pub read-place-symbol-requires : goal.read-place-symbol-requires
-read-place-symbol-requires g c =
+pub read_place-symbol-requires : goal.read_place-symbol-requires
+read_place-symbol-requires g c =
     let z = g.F.Field.ops.zero in
     let m₀ = g.S.Store.meaning c.args.store.now in
     let few = (g.S.Store.sound c.args.store.now).few_rows in
@@ -53,8 +53,8 @@ enter-requires g c =
     let l = slot_in z m₀ few slot es c.requires.clear c.loop-i.i p lt here (g.S.Store.meaning c.loop-i.store) c.loop-i.memory slots c.loop-i.count c.loop-i.invariant in
     omega (arith, c.slot-slot.ensures)
 
-pub overflow-add-count : goal.overflow-add-count
-overflow-add-count g c =
+pub overflow_add-count : goal.overflow_add-count
+overflow_add-count g c =
     let size : length (take c.loop-i.i (places_of (g.P.Listing.entries c.args.plan.now))) ≡ c.loop-i.i = length-take-le c.loop-i.i (places_of (g.P.Listing.entries c.args.plan.now)) (omega (arith, places_length (g.P.Listing.entries c.args.plan.now))) in
     omega (arith, c.loop-i.invariant.counted, distinct_few (take c.loop-i.i (places_of (g.P.Listing.entries c.args.plan.now))))
 
@@ -71,7 +71,7 @@ loop-i-preserved g c =
     let here = places_at (g.P.Listing.entries c.args.plan.now) c.loop-i.i c.at.result (omega (arith, places_length (g.P.Listing.entries c.args.plan.now))) c.at.ensures in
     elim c.if-not-keeps.branch [
       | then-not-keeps w ↦
-          simp (w.store-is, w.memory-is, w.count-is, w.enter.ensures, c.slot-slot.ensures) (filled_read z m₀ few slot es c.requires.clear c.loop-i.i p lt here (g.S.Store.meaning c.loop-i.store) c.loop-i.memory slots c.loop-i.count c.loop-i.invariant (ap (λ k. has_place (get_or c.loop-i.memory k (blank_record g.F.Field.ops.zero)) c.at.result.place.row c.at.result.place.node) (sym c.slot-slot.ensures) ∙ sym w.if-not-keeps.ensures) (g.S.Store.meaning w.read-place-symbol.new.store) w.read-place-symbol.result w.read-place-symbol.ensures.answer w.read-place-symbol.ensures.leaves)
+          simp (w.store-is, w.memory-is, w.count-is, w.enter.ensures, c.slot-slot.ensures) (filled_read z m₀ few slot es c.requires.clear c.loop-i.i p lt here (g.S.Store.meaning c.loop-i.store) c.loop-i.memory slots c.loop-i.count c.loop-i.invariant (ap (λ k. has_place (get_or c.loop-i.memory k (blank_record g.F.Field.ops.zero)) c.at.result.place.row c.at.result.place.node) (sym c.slot-slot.ensures) ∙ sym w.if-not-keeps.ensures) (g.S.Store.meaning w.read_place-symbol.new.store) w.read_place-symbol.result w.read_place-symbol.ensures.answer w.read_place-symbol.ensures.leaves)
       | else-not-keeps w ↦
           simp (w.store-is, w.memory-is, w.count-is) (filled_skip z m₀ few slot es c.requires.clear c.loop-i.i p lt here (g.S.Store.meaning c.loop-i.store) c.loop-i.memory slots c.loop-i.count c.loop-i.invariant (ap (λ k. has_place (get_or c.loop-i.memory k (blank_record g.F.Field.ops.zero)) c.at.result.place.row c.at.result.place.node) (sym c.slot-slot.ensures) ∙ sym w.if-not-keeps.ensures))
     ]

@@ -9,7 +9,7 @@ use Rattle.rebuilding.proofs.report.numbers_into.Goals as goal
 pub loop-i-preserved : goal.loop-i-preserved
 loop-i-preserved c =
     let f : ℕ → ℕ = skip c.args.j in
-    subst (λ v. (n : ℕ) → n < c.loop-i.i + 1 → get_or (set c.loop-i.out c.loop-i.i v) n 0 ≡ f n) (sym c.skip-over.ensures)
+    subst (λ v. (n : ℕ) → n < c.loop-i.i + 1 → get_or (set c.loop-i.out c.loop-i.i v) n 0 ≡ f n) (sym c.skip_over.ensures)
     (fill_by_more f c.loop-i.out c.loop-i.i 0 (omega arith) c.loop-i.invariant)
 
 pub returns : goal.returns

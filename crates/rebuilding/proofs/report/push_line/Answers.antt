@@ -6,5 +6,5 @@ use Rattle.rebuilding.proofs.report.push_line.Goals as goal
 
 pub returns : goal.returns
 returns c =
-    c.in-ok-push-report.ensures
-    ∙ ap (λ d. vec_items c.args.out.now ++ report d) (front (symbol_at c.args.line.now) c.symbols-into.new.out c.args.k c.requires c.symbols-into.ensures)
+    c.in_ok-push_report.ensures
+    ∙ ap (λ d. vec_items c.args.out.now ++ report d) (front (symbol_at c.args.line.now) c.symbols_into.new.out c.args.k c.requires c.symbols_into.ensures)

@@ -10,7 +10,7 @@ loop-i-init c = sym (append-nil (vec_items c.args.out.now))
 
 pub loop-i-preserved : goal.loop-i-preserved
 loop-i-preserved c =
-    each_more spaced_number (vec_items c.args.out.now) _ _ c.args.numbers.now c.loop-i.i 0 c.loop-i-test.true c.loop-i.invariant c.in-ok-push-spaced-number.ensures
+    each_more spaced_number (vec_items c.args.out.now) _ _ c.args.numbers.now c.loop-i.i 0 c.loop-i-test.true c.loop-i.invariant c.in_ok-push_spaced_number.ensures
 
 pub returns : goal.returns
 returns c =

@@ -9,14 +9,14 @@ regained-back-requires c =
       small = c.requires.small;
       place = c.requires.place;
       last = c.requires.last;
-      numbers = front (skip c.args.j) c.numbers-into.new.out (length c.args.symbols.now) c.requires.small c.numbers-into.ensures;
+      numbers = front (skip c.args.j) c.numbers_into.new.out (length c.args.symbols.now) c.requires.small c.numbers_into.ensures;
     }
 
 pub returns : goal.returns
 returns c = (
   c.regained-back.ensures,
-  c.in-ok-push-place-line.ensures
+  c.in_ok-push_place_line.ensures
       ∙ ap₂ (λ n u. vec_items c.args.out.now ++ place_line c.args.j n u)
-      (front (skip c.args.j) c.numbers-into.new.out (length c.args.symbols.now) c.requires.small c.numbers-into.ensures)
+      (front (skip c.args.j) c.numbers_into.new.out (length c.args.symbols.now) c.requires.small c.numbers_into.ensures)
       c.regained-back.ensures,
 )

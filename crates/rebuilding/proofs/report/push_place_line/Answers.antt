@@ -9,9 +9,9 @@ unfolding place_line
 returns c =
     let numbers = flat_map spaced_number c.args.numbers.now in
     let u = spaced c.args.u in
-    after (vec_items c.args.out.now) _ _ (codes "place ") (decimal c.args.j ++ (codes " read" ++ (numbers ++ (codes " gave" ++ (u ++ 10 ∷ []))))) c.in-ok-extend-from-slice.ensures.items
-    (after _ _ _ (decimal c.args.j) (codes " read" ++ (numbers ++ (codes " gave" ++ (u ++ 10 ∷ [])))) c.in-ok-push-number.ensures
-    (after _ _ _ (codes " read") (numbers ++ (codes " gave" ++ (u ++ 10 ∷ []))) c.in-ok-extend-from-slice-2.ensures.items
-    (after _ _ _ numbers (codes " gave" ++ (u ++ 10 ∷ [])) c.in-ok-push-numbers.ensures
-    (after _ _ _ (codes " gave") (u ++ 10 ∷ []) c.in-ok-extend-from-slice-3.ensures.items
-    (after _ _ _ u (10 ∷ []) c.in-ok-push-spaced.ensures c.in-ok-push.ensures.items)))))
+    after (vec_items c.args.out.now) _ _ (codes "place ") (decimal c.args.j ++ (codes " read" ++ (numbers ++ (codes " gave" ++ (u ++ 10 ∷ []))))) c.in_ok-extend_from_slice.ensures.items
+    (after _ _ _ (decimal c.args.j) (codes " read" ++ (numbers ++ (codes " gave" ++ (u ++ 10 ∷ [])))) c.in_ok-push_number.ensures
+    (after _ _ _ (codes " read") (numbers ++ (codes " gave" ++ (u ++ 10 ∷ []))) c.in_ok-extend_from_slice-2.ensures.items
+    (after _ _ _ numbers (codes " gave" ++ (u ++ 10 ∷ [])) c.in_ok-push_numbers.ensures
+    (after _ _ _ (codes " gave") (u ++ 10 ∷ []) c.in_ok-extend_from_slice-3.ensures.items
+    (after _ _ _ u (10 ∷ []) c.in_ok-push_spaced.ensures c.in_ok-push.ensures.items)))))

@@ -8,10 +8,10 @@ pub returns : goal.returns
 unfolding row_line
 returns c =
     let d = c.args.symbols.now in
-    let first = c.symbol-in-row-first.result in
-    let second = c.symbol-in-row-second.result in
-    after (vec_items c.args.out.now) _ _ (codes "row") (flat_map spaced d ++ (spaced first ++ (spaced second ++ 10 ∷ []))) c.in-ok-extend-from-slice.ensures.items
-    (after _ _ _ (flat_map spaced d) (spaced first ++ (spaced second ++ 10 ∷ [])) c.in-ok-push-symbols.ensures
-    (after _ _ _ (spaced first) (spaced second ++ 10 ∷ []) c.in-ok-push-spaced.ensures
-    (after _ _ _ (spaced second) (10 ∷ []) c.in-ok-push-spaced-2.ensures c.in-ok-push.ensures.items)))
-    ∙ ap₂ (λ u v. vec_items c.args.out.now ++ (codes "row" ++ (flat_map spaced d ++ (spaced u ++ (spaced v ++ 10 ∷ []))))) c.symbol-in-row-first.ensures c.symbol-in-row-second.ensures
+    let first = c.symbol_in_row-first.result in
+    let second = c.symbol_in_row-second.result in
+    after (vec_items c.args.out.now) _ _ (codes "row") (flat_map spaced d ++ (spaced first ++ (spaced second ++ 10 ∷ []))) c.in_ok-extend_from_slice.ensures.items
+    (after _ _ _ (flat_map spaced d) (spaced first ++ (spaced second ++ 10 ∷ [])) c.in_ok-push_symbols.ensures
+    (after _ _ _ (spaced first) (spaced second ++ 10 ∷ []) c.in_ok-push_spaced.ensures
+    (after _ _ _ (spaced second) (10 ∷ []) c.in_ok-push_spaced-2.ensures c.in_ok-push.ensures.items)))
+    ∙ ap₂ (λ u v. vec_items c.args.out.now ++ (codes "row" ++ (flat_map spaced d ++ (spaced u ++ (spaced v ++ 10 ∷ []))))) c.symbol_in_row-first.ensures c.symbol_in_row-second.ensures

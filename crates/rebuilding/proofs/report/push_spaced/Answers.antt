@@ -4,5 +4,5 @@ use Rattle.rebuilding.proofs.report.push_spaced.Goals as goal
 
 pub returns : goal.returns
 returns c =
-    after (vec_items c.args.out.now) _ _ (32 ∷ []) (c.glyph.result ∷ []) c.in-ok-push.ensures.items c.in-ok-push-2.ensures.items
+    after (vec_items c.args.out.now) _ _ (32 ∷ []) (c.glyph.result ∷ []) c.in_ok-push.ensures.items c.in_ok-push-2.ensures.items
     ∙ ap (λ b. vec_items c.args.out.now ++ 32 ∷ b ∷ []) c.glyph.ensures

@@ -11,7 +11,7 @@ loop-i-init c = sym (append-nil (vec_items c.args.out.now))
 
 pub loop-i-preserved : goal.loop-i-preserved
 loop-i-preserved c =
-    each_more spaced (vec_items c.args.out.now) _ _ c.args.symbols.now c.loop-i.i Zero c.loop-i-test.true c.loop-i.invariant c.in-ok-push-spaced.ensures
+    each_more spaced (vec_items c.args.out.now) _ _ c.args.symbols.now c.loop-i.i Zero c.loop-i-test.true c.loop-i.invariant c.in_ok-push_spaced.ensures
 
 pub returns : goal.returns
 returns c =

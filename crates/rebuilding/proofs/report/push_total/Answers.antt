@@ -6,7 +6,7 @@ use Rattle.rebuilding.proofs.report.push_total.Goals as goal
 pub returns : goal.returns
 unfolding total_line
 returns c =
-    after (vec_items c.args.out.now) _ _ (decimal c.args.right) (codes " of " ++ (decimal c.args.k ++ (codes " came back right" ++ 10 ∷ []))) c.in-ok-push-number.ensures
-    (after _ _ _ (codes " of ") (decimal c.args.k ++ (codes " came back right" ++ 10 ∷ [])) c.in-ok-extend-from-slice.ensures.items
-    (after _ _ _ (decimal c.args.k) (codes " came back right" ++ 10 ∷ []) c.in-ok-push-number-2.ensures
-    (after _ _ _ (codes " came back right") (10 ∷ []) c.in-ok-extend-from-slice-2.ensures.items c.in-ok-push.ensures.items)))
+    after (vec_items c.args.out.now) _ _ (decimal c.args.right) (codes " of " ++ (decimal c.args.k ++ (codes " came back right" ++ 10 ∷ []))) c.in_ok-push_number.ensures
+    (after _ _ _ (codes " of ") (decimal c.args.k ++ (codes " came back right" ++ 10 ∷ [])) c.in_ok-extend_from_slice.ensures.items
+    (after _ _ _ (decimal c.args.k) (codes " came back right" ++ 10 ∷ []) c.in_ok-push_number-2.ensures
+    (after _ _ _ (codes " came back right") (10 ∷ []) c.in_ok-extend_from_slice-2.ensures.items c.in_ok-push.ensures.items)))

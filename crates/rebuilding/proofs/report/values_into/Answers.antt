@@ -9,7 +9,7 @@ use Rattle.rebuilding.proofs.report.values_into.Goals as goal
 pub loop-i-preserved : goal.loop-i-preserved
 loop-i-preserved c =
     let f : ℕ → Decimal = λ n. known c.args.symbols.now c.args.last (skip c.args.j n) in
-    subst (λ v. (n : ℕ) → n < c.loop-i.i + 1 → get_or (set c.loop-i.out c.loop-i.i v) n Zero ≡ f n) (sym (c.known.ensures ∙ ap (known c.args.symbols.now c.args.last) c.skip-over.ensures))
+    subst (λ v. (n : ℕ) → n < c.loop-i.i + 1 → get_or (set c.loop-i.out c.loop-i.i v) n Zero ≡ f n) (sym (c.known.ensures ∙ ap (known c.args.symbols.now c.args.last) c.skip_over.ensures))
     (fill_by_more f c.loop-i.out c.loop-i.i Zero (omega arith) c.loop-i.invariant)
 
 pub returns : goal.returns

@@ -8,7 +8,7 @@ use Rattle.row_text.proofs.input.symbols_into.Goals as goal
 pub loop-j-preserved : goal.loop-j-preserved
 loop-j-preserved c =
     let f = symbol_at c.args.line.now in
-    subst (λ v. (i : ℕ) → i < c.loop-j.j + 1 → get_or (set c.loop-j.out c.loop-j.j v) i Zero ≡ f i) (sym c.symbol-on.ensures)
+    subst (λ v. (i : ℕ) → i < c.loop-j.j + 1 → get_or (set c.loop-j.out c.loop-j.j v) i Zero ≡ f i) (sym c.symbol_on.ensures)
     (fill_by_more f c.loop-j.out c.loop-j.j Zero (omega arith) c.loop-j.invariant)
 
 pub returns : goal.returns

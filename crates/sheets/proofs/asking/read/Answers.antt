@@ -3,13 +3,13 @@ use Rattle.sheets.specs.declared.asking.Asked.{Asked}
 use Rattle.sheets.specs.Asking.{Writes}
 use Rattle.sheets.proofs.asking.read.Goals as goal
 
-pub returns-in-default-number : goal.returns-in-default-number
-returns-in-default-number c =
-    (ap length c.in-Some.ensures, λ q w. c.in-default-number.ensures.spells q.k (subst (λ ws. Writes ws q) c.in-Some.ensures w).0)
+pub returns-in_default-number : goal.returns-in_default-number
+returns-in_default-number c =
+    (ap length c.in-Some.ensures, λ q w. c.in_default-number.ensures.spells q.k (subst (λ ws. Writes ws q) c.in-Some.ensures w).0)
 
-pub returns-in-default-number-5 : goal.returns-in-default-number-5
-returns-in-default-number-5 c =
-    (ap length c.in-Some.ensures, λ q w. c.in-default-number-5.ensures.spells q.node (subst (λ ws. Writes ws q) c.in-Some.ensures w).1.1.1.1.0)
+pub returns-in_default-number-5 : goal.returns-in_default-number-5
+returns-in_default-number-5 c =
+    (ap length c.in-Some.ensures, λ q w. c.in_default-number-5.ensures.spells q.node (subst (λ ws. Writes ws q) c.in-Some.ensures w).1.1.1.1.0)
 
 pub returns : goal.returns
 returns c =

@@ -6,9 +6,9 @@ use Rattle.symbols.proofs.reading.symbols_of.Goals as goal
 pub loop-word-preserved : goal.loop-word-preserved
 loop-word-preserved g c =
     turn g.S.Notation.written (left c.args.words) (left c.loop-word.word-iterator) (left c.next.new.self) (place c.in-Some.word) (vec_items c.loop-word.out) c.loop-word.invariant c.in-Some.ensures.steps
-    c.in-Some-read-symbol.symbol (vec_items c.push.new.self) c.in-Some-read-symbol.ensures c.in-ok-push.ensures.items
+    c.in-Some-read_symbol.symbol (vec_items c.push.new.self) c.in-Some-read_symbol.ensures c.in_ok-push.ensures.items
 
-pub returns-in-None-read-symbol : goal.returns-in-None-read-symbol
-returns-in-None-read-symbol g c =
+pub returns-in-None-read_symbol : goal.returns-in-None-read_symbol
+returns-in-None-read_symbol g c =
     stop g.S.Notation.written (left c.args.words) (left c.loop-word.word-iterator) (left c.next.new.self) (place c.in-Some.word) (vec_items c.loop-word.out) c.loop-word.invariant c.in-Some.ensures.steps
-    c.in-None-read-symbol.ensures
+    c.in-None-read_symbol.ensures

@@ -9,11 +9,11 @@ returns-then-b-lt48 c =
     no_digit _ c.loop-b.b-index (omega arith)
     (elim c.then-b-lt48.branch [ then-b-lt48-via-then-b-lt48 w ↦ inl w.if-b-lt48.true | then-b-lt48-via-else-b-lt48+then-b-gt57 w ↦ inr w.if-b-gt57.true ])
 
-pub overflow-mul-n : goal.overflow-mul-n
-overflow-mul-n c = let s = small c.args.word.now c.loop-b.b-index (omega arith) c.requires c.loop-b.invariant.0 in search rules
+pub overflow_mul-n : goal.overflow_mul-n
+overflow_mul-n c = let s = small c.args.word.now c.loop-b.b-index (omega arith) c.requires c.loop-b.invariant.0 in search rules
 
-pub overflow-add-n : goal.overflow-add-n
-overflow-add-n c = let s = small c.args.word.now c.loop-b.b-index (omega arith) c.requires c.loop-b.invariant.0 in search rules
+pub overflow_add-n : goal.overflow_add-n
+overflow_add-n c = let s = small c.args.word.now c.loop-b.b-index (omega arith) c.requires c.loop-b.invariant.0 in search rules
 
 pub loop-b-preserved : goal.loop-b-preserved
 loop-b-preserved c =

@@ -4,9 +4,9 @@ use Rattle.text.specs.Numbers.{NumberWord}
 use Rattle.text.proofs.Spelling.{judged, spells, back}
 use Rattle.text.proofs.numbers.number.Goals as goal
 
-pub returns-then-is-empty : goal.returns-then-is-empty
-returns-then-is-empty c =
-    let reads : NumberWord c.args.word.now → ⊥ = λ w. ⊎_elim (λ t. omega (arith, w.some, eqb-true _ 0 (sym c.is-empty.ensures ∙ t))) (λ t. omega (arith, t, w.short)) c.then-is-empty.either in
+pub returns-then-is_empty : goal.returns-then-is_empty
+returns-then-is_empty c =
+    let reads : NumberWord c.args.word.now → ⊥ = λ w. ⊎_elim (λ t. omega (arith, w.some, eqb-true _ 0 (sym c.is_empty.ensures ∙ t))) (λ t. omega (arith, t, w.short)) c.then-is_empty.either in
     let spelled = spells c.args.word.now None reads in
     record { reads = reads; spells = spelled; back = back c.args.word.now None spelled }
 
@@ -19,6 +19,6 @@ returns-then-longer c =
 pub returns : goal.returns
 returns c =
     let lead : get_or c.args.word.now 0 0 ≡ 48 → length c.args.word.now ≡ 1 = search rules in
-    let reads = judged c.args.word.now c.digits.result (omega (arith, eqb-false _ 0 (sym c.if-is-empty.ensures))) c.if-word-gt5.false lead c.digits.ensures in
+    let reads = judged c.args.word.now c.digits.result (omega (arith, eqb-false _ 0 (sym c.if-is_empty.ensures))) c.if-word-gt5.false lead c.digits.ensures in
     let spelled = spells c.args.word.now c.digits.result reads in
     record { reads = reads; spells = spelled; back = back c.args.word.now c.digits.result spelled }

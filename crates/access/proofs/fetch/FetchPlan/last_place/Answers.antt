@@ -13,7 +13,7 @@ returns-in-0 c =
     let i = c.args.self.row in
     let x = c.args.x in
     let h = subst (λ l. At (local_places p x i) l (at i (step_node p (steps p)))) (sym c.in-0.is) (last_first p x i) in
-    place_read (local_places p x i) c.args.l i c.step-node.result i (step_node p (steps p)) h refl (c.step-node.ensures ∙ ap (step_node p) c.steps.ensures)
+    place_read (local_places p x i) c.args.l i c.step_node.result i (step_node p (steps p)) h refl (c.step_node.ensures ∙ ap (step_node p) c.steps.ensures)
 
 pub returns-in-1 : goal.returns-in-1
 returns-in-1 c =
@@ -23,11 +23,11 @@ returns-in-1 c =
     let h = subst (λ l. At (local_places p x i) l (at (wrap p (i + steps p)) i)) (sym c.in-1.is) (last_next p x i) in
     place_read (local_places p x i) c.args.l c.wrap.result i (wrap p (i + steps p)) i h (c.wrap.ensures ∙ ap (λ t. wrap p (i + t)) c.steps-in-1.ensures) refl
 
-pub returns-in-default : goal.returns-in-default
-returns-in-default c =
+pub returns-in_default : goal.returns-in_default
+returns-in_default c =
     let p = c.args.self.parameters in
     let i = c.args.self.row in
     let x = c.args.x in
     let l = c.args.l in
-    place_read (local_places p x i) l i c.wrap-in-default.result i (wrap p (i + skip (p.k - x) (l - 1))) (last_rest p x i l (omega arith) (omega arith)) refl
-    (c.wrap-in-default.ensures ∙ ap (λ t. wrap p (i + t)) c.skip.ensures)
+    place_read (local_places p x i) l i c.wrap-in_default.result i (wrap p (i + skip (p.k - x) (l - 1))) (last_rest p x i l (omega arith) (omega arith)) refl
+    (c.wrap-in_default.ensures ∙ ap (λ t. wrap p (i + t)) c.skip.ensures)

@@ -26,8 +26,8 @@ skip-requires c =
     let n = places_size s.parameters s.row s.column s.inside.0 s.inside.1 c.way.result OwnRow c.way.ensures c.in-OwnRow.is in
     omega arith
 
-pub step-place-requires : goal.step-place-requires
-step-place-requires c =
+pub step_place-requires : goal.step_place-requires
+step_place-requires c =
     let s = c.args.self in
     let p = s.parameters in
     let i = s.row in
@@ -44,11 +44,11 @@ returns-in-OwnStep c =
     let i = s.row in
     let j = s.column in
     let l = c.args.l in
-    way_read p i j s.inside.0 s.inside.1 c.way.result OwnStep c.way.ensures c.in-OwnStep.is l c.step-place.result
-    (subst (λ x. c.step-place.result ≡ get_or (step_reads p j x) l c.step-place.result) c.offset.ensures c.step-place.ensures)
+    way_read p i j s.inside.0 s.inside.1 c.way.result OwnStep c.way.ensures c.in-OwnStep.is l c.step_place.result
+    (subst (λ x. c.step_place.result ≡ get_or (step_reads p j x) l c.step_place.result) c.offset.ensures c.step_place.ensures)
 
-pub last-place-requires : goal.last-place-requires
-last-place-requires c =
+pub last_place-requires : goal.last_place-requires
+last_place-requires c =
     let s = c.args.self in
     let p = s.parameters in
     let i = s.row in
@@ -66,5 +66,5 @@ returns-in-LastStep c =
     let i = s.row in
     let j = s.column in
     let l = c.args.l in
-    way_read p i j s.inside.0 s.inside.1 c.way.result LastStep c.way.ensures c.in-LastStep.is l c.last-place.result
-    (subst (λ x. c.last-place.result ≡ get_or (local_places p x i) l c.last-place.result) c.offset-in-LastStep.ensures c.last-place.ensures)
+    way_read p i j s.inside.0 s.inside.1 c.way.result LastStep c.way.ensures c.in-LastStep.is l c.last_place.result
+    (subst (λ x. c.last_place.result ≡ get_or (local_places p x i) l c.last_place.result) c.offset-in-LastStep.ensures c.last_place.ensures)

@@ -14,8 +14,8 @@ returns-in-OwnRow g c =
     c.around.ensures
     ∙ symbol_way g.F.Field.ops (numbered g.F.Field.ops.zero g.F.NumberedField.symbol) s.parameters (g.T.Table.held c.args.table.now) s.row s.column c.way.result OwnRow c.way.ensures c.in-OwnRow.is
 
-pub step-node-requires : goal.step-node-requires
-step-node-requires g c =
+pub step_node-requires : goal.step_node-requires
+step_node-requires g c =
     let s = c.args.self in
     let e = c.offset-x.ensures in
     let (a, b) = of_step s.parameters (offset s.parameters s.row s.column) c.way.result c.way.ensures c.in-OwnStep.is in
@@ -36,7 +36,7 @@ returns-in-OwnStep g c =
     let f = g.T.Table.held c.args.table.now in
     let e = c.offset-x.ensures in
     c.difference.ensures
-    ∙ ap₂ o.difference (c.look-given.ensures ∙ ap (f s.column) (c.step-node.ensures ∙ ap (step_node p) e)) (c.past.ensures ∙ ap (past o p f s.column) e)
+    ∙ ap₂ o.difference (c.look-given.ensures ∙ ap (f s.column) (c.step_node.ensures ∙ ap (step_node p) e)) (c.past.ensures ∙ ap (past o p f s.column) e)
     ∙ symbol_way o (numbered o.zero g.F.NumberedField.symbol) p f s.row s.column c.way.result OwnStep c.way.ensures c.in-OwnStep.is
 
 pub returns-in-LastStep : goal.returns-in-LastStep
@@ -45,5 +45,5 @@ returns-in-LastStep g c =
     let p = s.parameters in
     let o = g.F.Field.ops in
     let f = g.T.Table.held c.args.table.now in
-    c.by-local.ensures ∙ ap (λ x. by_local_lem o p f (p.k - x) s.row) c.offset-x-in-LastStep.ensures
+    c.by_local.ensures ∙ ap (λ x. by_local_lem o p f (p.k - x) s.row) c.offset-x-in-LastStep.ensures
     ∙ symbol_way o (numbered o.zero g.F.NumberedField.symbol) p f s.row s.column c.way.result LastStep c.way.ensures c.in-LastStep.is

@@ -13,10 +13,10 @@ returns-in-0 c =
     let j = c.args.self.column in
     let x = c.args.x in
     let h = subst (λ l. At (step_reads p j x) l (at j (step_node p x))) (sym c.in-0.is) (step_first p j x) in
-    place_read (step_reads p j x) c.args.l j c.step-node.result j (step_node p x) h refl c.step-node.ensures
+    place_read (step_reads p j x) c.args.l j c.step_node.result j (step_node p x) h refl c.step_node.ensures
 
-pub returns-in-default : goal.returns-in-default
-returns-in-default c =
+pub returns-in_default : goal.returns-in_default
+returns-in_default c =
     let p = c.args.self.parameters in
     let j = c.args.self.column in
     let x = c.args.x in

@@ -27,8 +27,8 @@ returns-then-l-parameters c =
     let l = c.args.l in
     place_read (put_places p i j x) l i _ i (p.k + (l - 1)) (rule_at p i j s.inside.0 s.inside.1 x refl l (omega arith) (omega arith)) refl refl
 
-pub step-node-requires : goal.step-node-requires
-step-node-requires c =
+pub step_node-requires : goal.step_node-requires
+step_node-requires c =
     let s = c.args.self in
     let e = c.crossings.ensures in
     let x = offset s.parameters s.row s.column in
@@ -43,10 +43,10 @@ returns-then-rest-crossings c =
     let x = offset p i j in
     let l = c.args.l in
     let e = c.crossings.ensures in
-    place_read (put_places p i j x) l i c.step-node.result i (step_node p (p.tau + (l - p.a))) (crossed_at p i j s.inside.0 s.inside.1 x refl l (omega arith) (omega arith)) refl c.step-node.ensures
+    place_read (put_places p i j x) l i c.step_node.result i (step_node p (p.tau + (l - p.a))) (crossed_at p i j s.inside.0 s.inside.1 x refl l (omega arith) (omega arith)) refl c.step_node.ensures
 
-pub step-node-requires-2 : goal.step-node-requires-2
-step-node-requires-2 c =
+pub step_node-requires-2 : goal.step_node-requires-2
+step_node-requires-2 c =
     let s = c.args.self in
     let x = offset s.parameters s.row s.column in
     let e = c.crossings.ensures in
@@ -63,4 +63,4 @@ returns c =
     let x = offset p i j in
     let l = c.args.l in
     let e = c.crossings.ensures in
-    place_read (put_places p i j x) l j c.step-node-2.result j (step_node p x) (carried_at p i j s.inside.0 s.inside.1 x refl l c.requires (omega arith)) refl (c.step-node-2.ensures ∙ ap (step_node p) c.offset.ensures)
+    place_read (put_places p i j x) l j c.step_node-2.result j (step_node p x) (carried_at p i j s.inside.0 s.inside.1 x refl l c.requires (omega arith)) refl (c.step_node-2.ensures ∙ ap (step_node p) c.offset.ensures)

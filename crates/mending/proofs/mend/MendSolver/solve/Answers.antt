@@ -5,10 +5,10 @@ use Rattle.mending.proofs.mend.MendSolver.solve.Goals as goal
 
 pub returns-then-sheet : goal.returns-then-sheet
 returns-then-sheet g c =
-    c.data-symbol.ensures
+    c.data_symbol.ensures
     ∙ restored_data g.F.Field.ops (numbered g.F.Field.ops.zero g.F.NumberedField.symbol) c.args.self.now.sheet.parameters (g.T.Table.held c.args.table.now) c.args.self.now.sheet.node c.args.row c.if-sheet.true
 
 pub returns-else-sheet : goal.returns-else-sheet
 returns-else-sheet g c =
-    c.parity-symbol.ensures
+    c.parity_symbol.ensures
     ∙ restored_parity g.F.Field.ops (numbered g.F.Field.ops.zero g.F.NumberedField.symbol) c.args.self.now.sheet.parameters (g.T.Table.held c.args.table.now) c.args.self.now.sheet.node c.args.row c.if-sheet.false

@@ -30,15 +30,15 @@ returns-then-i-head c =
     let i = c.args.i in
     let t = i - s.k + 1 in
     elim c.if-t-shape.branch [
-      | then-t-shape w ↦ read s j i c.if-t-shape.part Second c.step-node.result (step_node s t) (piggyback_at s j i t (omega arith) (omega arith) (omega arith)) w.part-is c.step-node.ensures
-      | else-t-shape w ↦ read s j i c.if-t-shape.part Third c.step-node.result (step_node s t) (local_at s j i t (omega arith) (omega arith) (omega arith)) w.part-is c.step-node.ensures
+      | then-t-shape w ↦ read s j i c.if-t-shape.part Second c.step_node.result (step_node s t) (piggyback_at s j i t (omega arith) (omega arith) (omega arith)) w.part-is c.step_node.ensures
+      | else-t-shape w ↦ read s j i c.if-t-shape.part Third c.step_node.result (step_node s t) (local_at s j i t (omega arith) (omega arith) (omega arith)) w.part-is c.step_node.ensures
     ]
 
-pub far-place-requires : goal.far-place-requires
-far-place-requires c =
-    let (x, b, l) = far_within c.args.self.parameters c.args.self.node c.args.i c.steps.result c.steps-2.result c.far-width-width.result c.steps.ensures c.steps-2.ensures c.far-width-width.ensures c.if-i-head.false c.requires.1 in
+pub far_place-requires : goal.far_place-requires
+far_place-requires c =
+    let (x, b, l) = far_within c.args.self.parameters c.args.self.node c.args.i c.steps.result c.steps-2.result c.far_width-width.result c.steps.ensures c.steps-2.ensures c.far_width-width.ensures c.if-i-head.false c.requires.1 in
     (x, b, l, c.requires.0)
 
 pub returns : goal.returns
 returns c =
-    far_read c.args.self.parameters c.args.self.node c.args.i c.steps.result c.steps-2.result c.far-width-width.result c.steps.ensures c.steps-2.ensures c.far-width-width.ensures c.if-i-head.false c.requires.1 c.far-place.result c.far-place.ensures
+    far_read c.args.self.parameters c.args.self.node c.args.i c.steps.result c.steps-2.result c.far_width-width.result c.steps.ensures c.steps-2.ensures c.far_width-width.ensures c.if-i-head.false c.requires.1 c.far_place.result c.far_place.ensures

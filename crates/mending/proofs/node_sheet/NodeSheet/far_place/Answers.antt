@@ -31,7 +31,7 @@ returns-in-0 c =
     let j = c.args.self.node in
     let x = c.args.x in
     let h = subst (λ l. At (far_places s j x) l (at (wrap s (j + x)) (step_node s (steps s)))) (sym c.in-0.is) (last_at s j x (omega arith)) in
-    read s j x c.args.l _ _ _ _ h c.wrap-row.ensures (c.step-node.ensures ∙ ap (step_node s) c.steps.ensures)
+    read s j x c.args.l _ _ _ _ h c.wrap-row.ensures (c.step_node.ensures ∙ ap (step_node s) c.steps.ensures)
 
 pub returns-in-1 : goal.returns-in-1
 returns-in-1 c =
@@ -41,8 +41,8 @@ returns-in-1 c =
     let h = subst (λ l. At (far_places s j x) l (at (wrap s (wrap s (j + x) + steps s)) (wrap s (j + x)))) (sym c.in-1.is) (next_at s j x (omega arith)) in
     read s j x c.args.l _ _ _ _ h (c.wrap.ensures ∙ ap₂ (λ r t. wrap s (r + t)) c.wrap-row.ensures c.steps-in-1.ensures) c.wrap-row.ensures
 
-pub returns-in-default : goal.returns-in-default
-returns-in-default c =
+pub returns-in_default : goal.returns-in_default
+returns-in_default c =
     let s = c.args.self.parameters in
     let j = c.args.self.node in
     let x = c.args.x in
@@ -50,4 +50,4 @@ returns-in-default c =
     let some : 1 ≤ s.b = omega arith in
     let w = width_local s some in
     read s j x l _ _ _ _ (past_at s j x some l (omega arith) (omega arith)) c.wrap-row.ensures
-    (c.wrap-in-default.ensures ∙ ap₂ (λ r t. wrap s (r + t)) c.wrap-row.ensures c.skip-in-default.ensures)
+    (c.wrap-in_default.ensures ∙ ap₂ (λ r t. wrap s (r + t)) c.wrap-row.ensures c.skip-in_default.ensures)

@@ -21,5 +21,5 @@ returns-then-node-shape c = sym (slot_data c.args.self.parameters c.args.self.no
 pub returns : goal.returns
 returns c =
     let s = c.args.self.parameters in
-    ap (λ r. s.k * r + c.args.self.node) c.given-row.ensures.0
+    ap (λ r. s.k * r + c.args.self.node) c.given_row.ensures.0
     ∙ sym (slot_parity s c.args.self.node c.args.row c.args.node (omega arith) (omega arith) (omega arith))

@@ -11,14 +11,14 @@ returns-then-row-self g c =
 pub bounds-self-row : goal.bounds-self-row
 bounds-self-row g c = data_within g.F.Field.ops.zero c.args.self.now.symbols.now c.args.self.now.rows c.args.self.now.columns c.args.row c.args.node c.args.self.now.whole (omega arith) (omega arith)
 
-pub overflow-mul-result : goal.overflow-mul-result
-overflow-mul-result g c = let lt : c.args.row * c.args.self.now.columns + c.args.node < length c.args.self.now.symbols.now = data_within g.F.Field.ops.zero c.args.self.now.symbols.now c.args.self.now.rows c.args.self.now.columns c.args.row c.args.node c.args.self.now.whole (omega arith) (omega arith) in search rules
+pub overflow_mul-result : goal.overflow_mul-result
+overflow_mul-result g c = let lt : c.args.row * c.args.self.now.columns + c.args.node < length c.args.self.now.symbols.now = data_within g.F.Field.ops.zero c.args.self.now.symbols.now c.args.self.now.rows c.args.self.now.columns c.args.row c.args.node c.args.self.now.whole (omega arith) (omega arith) in search rules
 
-pub overflow-add-result : goal.overflow-add-result
-overflow-add-result g c = let lt : c.args.row * c.args.self.now.columns + c.args.node < length c.args.self.now.symbols.now = data_within g.F.Field.ops.zero c.args.self.now.symbols.now c.args.self.now.rows c.args.self.now.columns c.args.row c.args.node c.args.self.now.whole (omega arith) (omega arith) in search rules
+pub overflow_add-result : goal.overflow_add-result
+overflow_add-result g c = let lt : c.args.row * c.args.self.now.columns + c.args.node < length c.args.self.now.symbols.now = data_within g.F.Field.ops.zero c.args.self.now.symbols.now c.args.self.now.rows c.args.self.now.columns c.args.row c.args.node c.args.self.now.whole (omega arith) (omega arith) in search rules
 
-pub offset-bounds-self-row : goal.offset-bounds-self-row
-offset-bounds-self-row g c = let lt : c.args.row * c.args.self.now.columns + c.args.node < length c.args.self.now.symbols.now = data_within g.F.Field.ops.zero c.args.self.now.symbols.now c.args.self.now.rows c.args.self.now.columns c.args.row c.args.node c.args.self.now.whole (omega arith) (omega arith) in search rules
+pub offset_bounds-self-row : goal.offset_bounds-self-row
+offset_bounds-self-row g c = let lt : c.args.row * c.args.self.now.columns + c.args.node < length c.args.self.now.symbols.now = data_within g.F.Field.ops.zero c.args.self.now.symbols.now c.args.self.now.rows c.args.self.now.columns c.args.row c.args.node c.args.self.now.whole (omega arith) (omega arith) in search rules
 
 pub returns : goal.returns
 returns g c =

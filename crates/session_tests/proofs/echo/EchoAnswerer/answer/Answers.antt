@@ -3,4 +3,4 @@ use Rattle.session_tests.proofs.Adding.{adds}
 use Rattle.session_tests.proofs.echo.EchoAnswerer.answer.Goals as goal
 
 pub returns-in-Err : goal.returns-in-Err
-returns-in-Err c = adds c.write-reply.result (vec_items c.args.out.now) (vec_items c.write-reply.new.out) _ c.write-reply.ensures
+returns-in-Err c = adds c.write_reply.result (vec_items c.args.out.now) (vec_items c.write_reply.new.out) _ c.write_reply.ensures
