@@ -1,7 +1,7 @@
 -- What a change of cells leaves of what they mean.
 use Rattle.std.proofs.Common.{◌≡◌, ℕ, ◌+◌, ◌-◌, ◌*◌, ◌<◌, ◌≤◌, min, Bool, true, false, cond, ◌&&◌, eqb, ltb, leb, List, length, get_or, set, is_ok, Some, None, Ok, Err, Option, sym, refl, ap, ◌∙◌, arith}
 use Rattle.std.proofs.lemmas.List.{get_or-set_same, get_or-set_other, length-set}
-use Rattle.std.proofs.lemmas.Bool.{cases_eq, eqb-false, lt-ltb}
+use Rattle.std.proofs.lemmas.Bool.{cases_eq, eqb-false, lt-ltb, cond-true}
 use Rattle.std.proofs.lemmas.Bool.Decides.{nat_tests}
 use Rattle.store.specs.Meaning.{Meaning, Sound, on, probed, read, written, refreshed, cleared, total, summed, blank}
 use Rattle.store.specs.Beyond.{Beyond}
@@ -70,7 +70,7 @@ kept_summed rows nodes cells node sum q e =
     let t = laid_total rows nodes 1000 (symbols cells) (meters cells) node q in
     let l = lt-ltb node nodes q in
     let f : total (λ k. meters cells (rows * node + k)) ((rows * node + rows) - rows * node) ≡ total (λ k. meters cells (rows * node + k)) rows = ap (total (λ k. meters cells (rows * node + k))) n in
-    rw l (ap Ok (e ∙ (f ∙ sym t)))
+    ap Ok (e ∙ (f ∙ sym t)) ∙ sym (cond-true _ _ _ l)
 
 pub kept_blank : {F : Type 0} (rows nodes : ℕ) (cells cells' : List (Cell F)) → ((k : ℕ) → cell cells' k ≡ cond (leb 0 k && ltb k (rows * nodes)) bare (cell cells k)) → kept rows nodes cells' ≡ blank F rows nodes 1000
 kept_blank rows nodes cells cells' h = laid_blank rows nodes 1000 (symbols cells') (meters cells')

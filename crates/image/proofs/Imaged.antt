@@ -1,6 +1,6 @@
 -- What a change of records leaves of what the image means.
 use Rattle.std.proofs.Common.{◌≡◌, ℕ, zero, suc, ◌+◌, ◌-◌, ◌*◌, ◌/◌, ◌%◌, ◌<◌, ◌≤◌, min, Bool, true, false, cond, ◌&&◌, eqb, ltb, leb, List, [], length, get_or, is_ok, Some, None, Ok, Err, Option, sym, refl, ap, ◌∙◌, arith}
-use Rattle.std.proofs.lemmas.Bool.{lt-ltb, cond_both, eqb-true}
+use Rattle.std.proofs.lemmas.Bool.{lt-ltb, cond_both, cond-true, eqb-true}
 use Rattle.std.proofs.lemmas.Bool.Decides.{nat_tests}
 use Rattle.store.specs.Meaning.{Meaning, on, probed, read, written, refreshed, cleared, total, summed, blank}
 use Rattle.store.specs.Beyond.{Beyond}
@@ -69,7 +69,7 @@ pub imaged_summed : {F : Type 0} (symbol : ℕ → Option F) (rows nodes : ℕ) 
 imaged_summed symbol rows nodes bytes node sum q e =
     let t = laid_total rows nodes 250 (λ k. holds symbol (four bytes (4 * k))) (λ k. wear (four bytes (4 * k))) node q in
     let l = lt-ltb node nodes q in
-    rw l (ap Ok (e ∙ sym t))
+    ap Ok (e ∙ sym t) ∙ sym (cond-true _ _ _ l)
 
 -- a place beyond the store is none of it, and in none of its runs
 beyond_spot : (rows nodes row node k : ℕ) → row < rows → node < nodes → rows * nodes ≤ k → eqb k (spot rows row node) ≡ false

@@ -52,9 +52,9 @@ impl Listing for Mend {
 }
 
 impl<F: NumberedField> Solver<F> for Mend {
-    ghost ready = { λ m row. (row < m.sheet.parameters.k) × (m.sheet.parameters.k + m.sheet.parameters.a ≤ size) × MendingWeights F.Field.ops (numbered_of F.Field.ops.zero symbol) m.sheet.parameters m.sheet.node m.weights };
+    ghost ready = { λ m row. (row < m.sheet.parameters.k) × (m.sheet.parameters.k + m.sheet.parameters.a ≤ F.size) × MendingWeights F.Field.ops (numbered_of F.Field.ops.zero F.symbol) m.sheet.parameters m.sheet.node m.weights };
 
-    ghost solved = { λ m v row. restored F.Field.ops (numbered_of F.Field.ops.zero symbol) m.sheet.parameters v m.sheet.node row };
+    ghost solved = { λ m v row. restored F.Field.ops (numbered_of F.Field.ops.zero F.symbol) m.sheet.parameters v m.sheet.node row };
 
     fn solve<T: Table<F>>(&self, table: &T, row: usize) -> F {
         let sheet = self.sheet;
@@ -98,9 +98,9 @@ impl Column {
 }
 
 impl<F: NumberedField> Solver<F> for Column {
-    ghost ready = { λ c row. (row < c.sheet.parameters.k) × (c.sheet.parameters.k + c.sheet.parameters.a ≤ size) × MakingWeights F.Field.ops (numbered_of F.Field.ops.zero symbol) c.sheet.parameters c.sheet.node c.weights };
+    ghost ready = { λ c row. (row < c.sheet.parameters.k) × (c.sheet.parameters.k + c.sheet.parameters.a ≤ F.size) × MakingWeights F.Field.ops (numbered_of F.Field.ops.zero F.symbol) c.sheet.parameters c.sheet.node c.weights };
 
-    ghost solved = { λ c d row. array F.Field.ops (numbered_of F.Field.ops.zero symbol) c.sheet.parameters d row c.sheet.node };
+    ghost solved = { λ c d row. array F.Field.ops (numbered_of F.Field.ops.zero F.symbol) c.sheet.parameters d row c.sheet.node };
 
     fn solve<T: Table<F>>(&self, table: &T, row: usize) -> F {
         let sheet = self.sheet;

@@ -33,9 +33,9 @@ kept_free held more held' clean free e = subst (Free 10) (sym e) (free_take 10 5
 kept_short : (line held' : List ℕ) → held' ≡ kept line → length held' ≤ 5001
 kept_short line held' e = omega (arith, ap length e, length-take 5001 line)
 
-pub still : {X Y : Type 0} (r : Result X Y) (held more held' : List ℕ) → MatchResult r (λ _. held' ≡ kept (held ++ more)) (λ _. held' ≡ held) → Free 10 held → Free 10 more → length held ≤ 5001 → Free 10 held' × ((length held' ≤ 5001) × Unit {0})
-still (Ok x) held more held' e clean free short = (kept_free held more held' clean free e, (kept_short (held ++ more) held' e, tt))
-still (Err y) held more held' e clean free short = (subst (Free 10) (sym e) clean, (subst (λ h. length h ≤ 5001) (sym e) short, tt))
+pub still : {X Y : Type 0} (r : Result X Y) (held more held' : List ℕ) → MatchResult r (λ _. held' ≡ kept (held ++ more)) (λ _. held' ≡ held) → Free 10 held → Free 10 more → length held ≤ 5001 → Free 10 held' × (length held' ≤ 5001)
+still (Ok x) held more held' e clean free short = (kept_free held more held' clean free e, kept_short (held ++ more) held' e)
+still (Err y) held more held' e clean free short = (subst (Free 10) (sym e) clean, subst (λ h. length h ≤ 5001) (sym e) short)
 
 -- some lines are answered, and the held bytes and the rest of the chunk are to come
 pub record Going {S : Type 0} (answers : S → List ℕ → S → List ℕ → Type 0) (held₀ chunk : List ℕ) (first : S) (held rest : List ℕ) (s : S) (bytes : List ℕ) : Type 0 where

@@ -5,7 +5,7 @@ use Rattle.row.specs.declared.fault.RowFault.TheVariants.{Uneven, NoSymbol, Repe
 use Rattle.row.specs.Answers.{beyond, repeated, rebuild_answer}
 use Rattle.row.proofs.Rules.{any_give_all}
 use Rattle.row.proofs.rebuild.Goals as goal
-use Rattle.row.proofs.rebuild.Goals.{then-is_beyond-via-then-is_beyond, then-is_beyond-via-else-is-beyond+then-size-m}
+use Rattle.row.proofs.rebuild.Goals.{then-is_beyond-via-then-is_beyond, then-is_beyond-via-else-is_beyond+then-size-m}
 
 pub returns-then-numbers-values : goal.returns-then-numbers-values
 returns-then-numbers-values g c =
@@ -24,7 +24,7 @@ returns-then-is_beyond g c =
     let test : (beyond size numbers || leb size m) ≡ true
     = elim c.then-is_beyond.branch [
       | then-is_beyond-via-then-is_beyond w ↦ or_left (beyond size numbers) (leb size m) (sym (c.is_beyond.ensures ∙ ap (λ s. beyond s numbers) c.size.ensures) ∙ w.if-is_beyond.true)
-      | then-is_beyond-via-else-is-beyond+then-size-m w ↦ or_right (beyond size numbers) (leb size m) (le-leb size m (omega arith))
+      | then-is_beyond-via-else-is_beyond+then-size-m w ↦ or_right (beyond size numbers) (leb size m) (le-leb size m (omega arith))
     ] in
     let e : Err NoSymbol ≡ rebuild_answer g.F.Field.ops size g.F.NumberedField.symbol numbers values m
     = sym (cond-true (eqb (length numbers) (length values)) _ _ (eq-eqb (length numbers) (length values) c.if-numbers-values.false)

@@ -25,8 +25,8 @@ loop-node-preserved g c =
     let d = g.T.Table.held c.args.table.now in
     let node = c.loop-node.node in
     let m₁ = g.S.Store.meaning c.loop-node.store in
-    painted_twice (g.S.Store.meaning c.args.store.now) (g.S.Store.meaning c.loop-node.store) (g.S.Store.meaning c.write_node.new.store) (in_array (g.C.Code.code c.args.code.now).rows c.loop-node.node) (in_node (g.C.Code.code c.args.code.now).rows c.loop-node.node) (in_array (g.C.Code.code c.args.code.now).rows (c.loop-node.node + 1)) ((g.C.Code.code c.args.code.now).symbol (g.T.Table.held c.args.table.now)) (λ i _. g.Column.Solver.solved c.column-column.result (g.T.Table.held c.args.table.now) i) c.loop-node.invariant
-    (c.write_node.ensures ∙ ap (λ n. painted (g.S.Store.meaning c.loop-node.store) (in_node n c.loop-node.node) (λ i _. g.Column.Solver.solved c.column-column.result (g.T.Table.held c.args.table.now) i)) c.rows-rows.ensures)
+    painted_twice (g.S.Store.meaning c.args.store.now) (g.S.Store.meaning c.loop-node.store) (g.S.Store.meaning c.write_node.new.store) (in_array (g.C.Code.code c.args.code.now).rows c.loop-node.node) (in_node (g.C.Code.code c.args.code.now).rows c.loop-node.node) (in_array (g.C.Code.code c.args.code.now).rows (c.loop-node.node + 1)) ((g.C.Code.code c.args.code.now).symbol (g.T.Table.held c.args.table.now)) (λ i _. g.C.Column.Solver.solved c.column-column.result (g.T.Table.held c.args.table.now) i) c.loop-node.invariant
+    (c.write_node.ensures ∙ ap (λ n. painted (g.S.Store.meaning c.loop-node.store) (in_node n c.loop-node.node) (λ i _. g.C.Column.Solver.solved c.column-column.result (g.T.Table.held c.args.table.now) i)) c.rows-rows.ensures)
     (λ i j t. let q = node_row (g.C.Code.code c.args.code.now).rows c.loop-node.node i j t in c.column-column.ensures.solved (g.T.Table.held c.args.table.now) i q.0 ∙ ap ((g.C.Code.code c.args.code.now).symbol (g.T.Table.held c.args.table.now) i) (sym q.1))
     (array_more (g.C.Code.code c.args.code.now).rows c.loop-node.node)
 

@@ -19,7 +19,7 @@ pub refresh-requires : goal.refresh-requires
 refresh-requires g c = let r = run_in c.args.self.now c.args.node c.if-node-self.false in omega arith
 
 pub invariant_of-self : goal.invariant_of-self
-invariant_of-self g c = (fits_still c.args.self.now c.args.node c.if-node-self.false c.refresh.new.self.cells.now c.refresh.ensures.long, tt)
+invariant_of-self g c = record { fits = fits_still c.args.self.now c.args.node c.if-node-self.false c.refresh.new.self.cells.now c.refresh.ensures.long }
 
 pub returns : goal.returns
 returns g c =

@@ -34,7 +34,7 @@ fetch_by-requires g c =
     let v = ((g.met.C.Code.lawful c.args.self.now.code) q.0).fetches (blanks (g.S.Store.meaning c.args.store.now)) c.args.row c.args.column q.2 q.3 in
     record {
       inside = λ i j l. let b = v.inside i j (ap (λ es. listed (places_of es) (at i j)) (sym c.fetch_plan-plan.ensures.entries) ∙ l) in fits_on (g.C.Code.code c.args.self.now.code) (g.S.Store.meaning c.args.store.now) i j q.1 b.0 b.1;
-      slots = slotted_more (g.Plan.Listing.entries c.fetch_plan-plan.result) (g.Plan.ReadPlan.slot c.fetch_plan-plan.result) (g.C.Code.code c.args.self.now.code).fetch_room (length c.args.memory.now) q.4 c.fetch_plan-plan.ensures.slots;
+      slots = slotted_more (g.C.Plan.Listing.entries c.fetch_plan-plan.result) (g.C.Plan.ReadPlan.slot c.fetch_plan-plan.result) (g.C.Code.code c.args.self.now.code).fetch_room (length c.args.memory.now) q.4 c.fetch_plan-plan.ensures.slots;
       ready = c.fetch_plan-plan.ensures.ready;
     }
 
@@ -48,7 +48,7 @@ pub returns-then-is_blank : goal.returns-then-is_blank
 unfolding FetchDone
 returns-then-is_blank g c =
     record {
-      done = fetch_blank g.F.Field.ops.zero (g.C.Code.code c.args.self.now.code) (g.S.Store.meaning c.args.store.now) c.args.row c.args.column (fetch_decline g.F.NumberedField.size (g.C.Code.code c.args.self.now.code) (g.S.Store.meaning c.args.store.now) c.args.row c.args.column (length c.args.memory.now)) c.in-None.ensures c.fetch_by.result (g.S.Store.meaning c.fetch_by.new.store) (sym c.if-is_blank.ensures) (g.Plan.Listing.entries c.fetch_plan-plan.result) (g.Plan.Solver.solved c.fetch_plan-plan.result) c.fetch_plan-plan.ensures.entries c.fetch_plan-plan.ensures.solved c.fetch_by.ensures.done;
+      done = fetch_blank g.F.Field.ops.zero (g.C.Code.code c.args.self.now.code) (g.S.Store.meaning c.args.store.now) c.args.row c.args.column (fetch_decline g.F.NumberedField.size (g.C.Code.code c.args.self.now.code) (g.S.Store.meaning c.args.store.now) c.args.row c.args.column (length c.args.memory.now)) c.in-None.ensures c.fetch_by.result (g.S.Store.meaning c.fetch_by.new.store) (sym c.if-is_blank.ensures) (g.C.Plan.Listing.entries c.fetch_plan-plan.result) (g.C.Plan.Solver.solved c.fetch_plan-plan.result) c.fetch_plan-plan.ensures.entries c.fetch_plan-plan.ensures.solved c.fetch_by.ensures.done;
       memory = c.fetch_by.ensures.memory;
     }
 

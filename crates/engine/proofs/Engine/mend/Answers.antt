@@ -25,12 +25,12 @@ pub mend_by-requires : goal.mend_by-requires
 mend_by-requires g c =
     let q = mend_on g.F.NumberedField.size (g.C.Code.code c.args.self.now.code) (g.S.Store.meaning c.args.store.now) c.args.node (length c.args.memory.now) c.in-None.ensures in
     let w = (g.met.C.Code.lawful c.args.self.now.code) q.0 in
-    let v = w.mends (blanks (g.S.Store.meaning c.args.store.now)) c.args.node 0 q.2 w.some-row in
+    let v = w.mends (blanks (g.S.Store.meaning c.args.store.now)) c.args.node 0 q.2 w.some_row in
     let p = fits_parts (g.C.Code.code c.args.self.now.code) (g.S.Store.meaning c.args.store.now) q.1 in
     record {
       room = (omega (arith, p.0, c.rows.ensures), omega (arith, p.1, q.2));
       inside = λ i j l. let b = v.inside i j (ap (λ es. listed (places_of es) (at i j)) (sym c.mend_plan-plan.ensures.entries) ∙ l) in fits_on (g.C.Code.code c.args.self.now.code) (g.S.Store.meaning c.args.store.now) i j q.1 b.0 b.1;
-      slots = slotted_more (g.Plan.Listing.entries c.mend_plan-plan.result) (g.Plan.ReadPlan.slot c.mend_plan-plan.result) ((g.C.Code.code c.args.self.now.code).mend_room c.args.node) (length c.args.memory.now) q.3 c.mend_plan-plan.ensures.slots;
+      slots = slotted_more (g.C.Plan.Listing.entries c.mend_plan-plan.result) (g.C.Plan.ReadPlan.slot c.mend_plan-plan.result) ((g.C.Code.code c.args.self.now.code).mend_room c.args.node) (length c.args.memory.now) q.3 c.mend_plan-plan.ensures.slots;
       ready = λ row l. c.mend_plan-plan.ensures.ready row (omega (arith, l, c.rows.ensures));
     }
 
@@ -38,6 +38,6 @@ pub returns-in-None : goal.returns-in-None
 unfolding MendDone
 returns-in-None g c =
     record {
-      done = mend_by_plan g.F.Field.ops.zero (g.C.Code.code c.args.self.now.code) (g.S.Store.meaning c.args.store.now) c.args.node (mend_decline g.F.NumberedField.size (g.C.Code.code c.args.self.now.code) (g.S.Store.meaning c.args.store.now) c.args.node (length c.args.memory.now)) c.in-None.ensures c.rows.result c.rows.ensures (g.Plan.Listing.entries c.mend_plan-plan.result) (g.Plan.Solver.solved c.mend_plan-plan.result) c.mend_plan-plan.ensures.entries c.mend_plan-plan.ensures.solved c.mend_by.result (g.S.Store.meaning c.mend_by.new.store) c.mend_by.ensures.done;
+      done = mend_by_plan g.F.Field.ops.zero (g.C.Code.code c.args.self.now.code) (g.S.Store.meaning c.args.store.now) c.args.node (mend_decline g.F.NumberedField.size (g.C.Code.code c.args.self.now.code) (g.S.Store.meaning c.args.store.now) c.args.node (length c.args.memory.now)) c.in-None.ensures c.rows.result c.rows.ensures (g.C.Plan.Listing.entries c.mend_plan-plan.result) (g.C.Plan.Solver.solved c.mend_plan-plan.result) c.mend_plan-plan.ensures.entries c.mend_plan-plan.ensures.solved c.mend_by.result (g.S.Store.meaning c.mend_by.new.store) c.mend_by.ensures.done;
       memory = c.mend_by.ensures.memory;
     }

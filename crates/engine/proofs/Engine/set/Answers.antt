@@ -15,7 +15,7 @@ pub write_array-requires : goal.write_array-requires
 write_array-requires g c = let p = set_passed g.F.NumberedField.size (g.C.Code.code c.args.self.now.code) (g.S.Store.meaning c.args.store.now) (length c.args.symbols.now) c.in-None.ensures in record { fine = p.0; room = p.1 }
 
 pub invariant_of-data : goal.invariant_of-data
-invariant_of-data g c = let p = set_passed g.F.NumberedField.size (g.C.Code.code c.args.self.now.code) (g.S.Store.meaning c.args.store.now) (length c.args.symbols.now) c.in-None.ensures in (p.2 ∙ sym (ap₂ (λ x y. x * y) c.rows.ensures c.columns.ensures), tt)
+invariant_of-data g c = let p = set_passed g.F.NumberedField.size (g.C.Code.code c.args.self.now.code) (g.S.Store.meaning c.args.store.now) (length c.args.symbols.now) c.in-None.ensures in record { whole = p.2 ∙ sym (ap₂ (λ x y. x * y) c.rows.ensures c.columns.ensures) }
 
 pub returns-in-None : goal.returns-in-None
 unfolding SetDone array_set data_of laid_out

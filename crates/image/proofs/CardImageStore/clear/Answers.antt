@@ -21,7 +21,7 @@ pub clear-requires : goal.clear-requires
 clear-requires g c = let s = c.args.self.now in let r = run_in g.F.NumberedField.symbol s c.args.node c.if-node-self.false in omega (arith, s.shape.fewrows)
 
 pub invariant_of-self : goal.invariant_of-self
-invariant_of-self g c = (fits_still g.F.NumberedField.symbol c.args.self.now c.args.node c.if-node-self.false c.clear.new.self.bytes.now c.clear.ensures.long, tt)
+invariant_of-self g c = record { fits = fits_still g.F.NumberedField.symbol c.args.self.now c.args.node c.if-node-self.false c.clear.new.self.bytes.now c.clear.ensures.long }
 
 pub returns : goal.returns
 returns g c =

@@ -20,7 +20,7 @@ pub refresh-requires : goal.refresh-requires
 refresh-requires g c = let s = c.args.self.now in let r = run_in g.F.NumberedField.symbol s c.args.node c.if-node-self.false in omega (arith, s.shape.fewrows)
 
 pub invariant_of-self : goal.invariant_of-self
-invariant_of-self g c = (fits_still g.F.NumberedField.symbol c.args.self.now c.args.node c.if-node-self.false c.refresh.new.self.bytes.now c.refresh.ensures.long, tt)
+invariant_of-self g c = record { fits = fits_still g.F.NumberedField.symbol c.args.self.now c.args.node c.if-node-self.false c.refresh.new.self.bytes.now c.refresh.ensures.long }
 
 pub returns : goal.returns
 returns g c =

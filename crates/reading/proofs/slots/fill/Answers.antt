@@ -12,8 +12,8 @@ use Rattle.reading.proofs.slots.fill.Goals.{then-not-keeps, else-not-keeps}
 pub loop-i-init : goal.loop-i-init
 loop-i-init g c = filled_none g.F.Field.ops.zero (g.S.Store.meaning c.args.store.now) (g.S.Store.sound c.args.store.now).few_rows (g.P.ReadPlan.slot c.args.plan.now) c.args.memory.now c.requires.vacant
 
-pub keeps-requires-in-loop-i : goal.keeps-requires-in-loop-i
-keeps-requires-in-loop-i g c =
+pub keeps-requires : goal.keeps-requires
+keeps-requires g c =
     let z = g.F.Field.ops.zero in
     let m₀ = g.S.Store.meaning c.args.store.now in
     let few = (g.S.Store.sound c.args.store.now).few_rows in
