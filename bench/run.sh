@@ -1,7 +1,7 @@
 #!/bin/bash
 # Times the model's engine, and the program `cards` against the model on a
 # session of 100,000 lines.
-# Run from the repository root, after the programs are built in target/bin.
+# Run from the repository root, after tools/programs has built the programs.
 # With --no-mend the session has no line that mends.
 set -euo pipefail
 

@@ -1,6 +1,6 @@
 #!/bin/sh
 # Holds every product and every inverse of byte symbols against a computation in Rust that uses no table.
-# Needs target/bin/byte_table, which the check builds.
+# Needs target/bin/byte_table, which tools/programs builds.
 set -eu
 cd "$(dirname "$0")/.."
 work=$(mktemp -d)

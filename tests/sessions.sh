@@ -1,7 +1,7 @@
 #!/bin/bash
 # Compares the built program `cards` with the model on 2,000 generated session
 # files, and runs the example session and one that wears a place out.
-# Run from the repository root, after the programs are built in target/bin.
+# Run from the repository root, after tools/programs has built the programs.
 # With --no-mend the word `mend` is unknown.
 set -euo pipefail
 

@@ -1,7 +1,7 @@
 #!/bin/bash
 # Compares the built program `sheets` with the model, on every node of many
 # parameter sets and on lines that just fail each check.
-# Run from the repository root, after the programs are built in target/bin.
+# Run from the repository root, after tools/programs has built the programs.
 set -euo pipefail
 
 sheets=target/bin/sheets

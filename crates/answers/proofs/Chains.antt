@@ -1,5 +1,5 @@
 -- One write after another. Assumes nothing.
-use Rattle.std.proofs.Common.{◌≡◌, ℕ, List, [], ◌∷◌, ◌++◌, Some, None, decimal, Option, sym, refl, ap, ◌∙◌, append_assoc}
+use Rattle.std.proofs.Common.{◌≡◌, ℕ, List, [], ◌∷◌, ◌++◌, Some, None, decimal, Option, refl, ap, ◌∙◌, append_assoc}
 use Rattle.text.specs.Parts.{joined_by}
 use Rattle.answers.specs.Declines.{number_of, place_of}
 use Rattle.answers.specs.declared.decline.Place.{Place}

@@ -1,5 +1,5 @@
 -- The checks of the parameters, one by one. Assumes nothing.
-use Rattle.std.proofs.Common.{◌≡◌, ℕ, ◌+◌, ◌-◌, ◌<◌, ◌≤◌, Bool, true, false, cond, ◌||◌, ltb, leb, ◌⊎◌, Some, None, Option, refl, ap, ◌∙◌, ap₂, ⊎_elim}
+use Rattle.std.proofs.Common.{◌≡◌, ℕ, ◌+◌, ◌-◌, ◌<◌, ◌≤◌, cond, ◌||◌, ltb, leb, ◌⊎◌, Some, None, Option, ap, ◌∙◌, ap₂, ⊎_elim}
 use Rattle.std.proofs.lemmas.Bool.{cond-true, cond-false, or_left, or_right, lt-ltb, le-ltb, le-leb, lt-leb}
 use Rattle.array.specs.declared.fault.ParameterFault.{ParameterFault}
 use Rattle.array.specs.declared.fault.ParameterFault.TheVariants.{DataNodes, ClassA, Piggybacks, ClassB, SmallField}

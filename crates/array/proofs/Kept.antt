@@ -1,17 +1,16 @@
 -- The data nodes of an offset and more in a row, node rising. Assumes nothing.
-use Rattle.std.proofs.Common.{◌≡◌, ℕ, ◌+◌, ◌-◌, ◌*◌, ◌<◌, ◌≤◌, cond, ltb, ◌⊎◌, List, [], ◌∷◌, map, length, sym, refl, ap, ◌∙◌, subst, inl, inr, ⊎_elim, arith}
+use Rattle.std.proofs.Common.{◌≡◌, ℕ, ◌+◌, ◌-◌, ◌*◌, ◌<◌, ◌≤◌, cond, ltb, List, [], map, length, sym, ap, ◌∙◌, subst, ⊎_elim, arith}
 use Rattle.std.specs.List.{range_with_len}
 use Rattle.std.proofs.lemmas.List.FromFn.{length-map-range_with_len}
 use Rattle.std.proofs.lemmas.Bool.{cases_lt, cond-true, cond-false, lt-ltb, le-ltb}
 use Rattle.sheet.specs.declared.place.Place.{Place}
-use Rattle.sheet.specs.Places.{at, distinct, distinct_from}
+use Rattle.sheet.specs.Places.{at, distinct}
 use Rattle.array.specs.declared.parameters.Parameters.{Parameters}
-use Rattle.array.specs.Layout.{wrap, offset}
-use Rattle.array.specs.Each.{each}
+use Rattle.array.specs.Layout.{offset}
 use Rattle.array.specs.Sheet.{kept_node, offset_places}
 use Rattle.array.proofs.Members.{In, in_map, in_counting, in_each, from_map, from_counting, from_each}
 use Rattle.array.proofs.Wraps.{offset_cases}
-use Rattle.array.proofs.Once.{Once, once_map, distinct_once, distinct_each, length_each}
+use Rattle.array.proofs.Once.{once_map, distinct_once, distinct_each, length_each}
 
 -- which node is listed at c
 pub data Kept (t i c : ℕ) : Type 0 where

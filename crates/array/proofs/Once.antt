@@ -1,11 +1,11 @@
 -- Lists with no repeats, and what skipping repeats leaves. Assumes nothing.
-use Rattle.std.proofs.Common.{◌≡◌, ℕ, zero, suc, ◌+◌, ◌*◌, ◌<◌, ◌≤◌, Bool, true, false, cond, ◌⊎◌, List, [], ◌∷◌, ◌++◌, map, length, sym, refl, ap, ◌∙◌, subst, ap₂, inl, inr, ⊎_elim, append_assoc, append-nil, suc-mul, arith, length-append}
+use Rattle.std.proofs.Common.{◌≡◌, ℕ, zero, suc, ◌+◌, ◌*◌, ◌<◌, ◌≤◌, List, [], ◌∷◌, ◌++◌, map, length, sym, refl, ap, ◌∙◌, subst, inl, inr, ⊎_elim, append_assoc, append-nil, suc-mul, arith, length-append}
 use Rattle.std.specs.List.{range_with_len}
 use Rattle.std.proofs.lemmas.Bool.{cases_eq, cases_Bool, both_ways, cond-true, cond-false}
 use Rattle.sheet.specs.declared.place.Place.{Place}
 use Rattle.sheet.specs.Places.{listed, with_place, distinct_from, distinct}
 use Rattle.array.specs.Each.{each}
-use Rattle.array.proofs.Members.{In, in_left, in_right, in_append, from_map, from_counting, not_listed, listed_in, in_listed}
+use Rattle.array.proofs.Members.{In, in_left, in_append, from_map, from_counting, not_listed, listed_in, in_listed}
 
 -- no repeats
 abbrev pub Once : {A : Type 0} → List A → Type 0

@@ -1,21 +1,19 @@
 -- The symbols at the places of its read sheet give back every symbol of a data node. Assumes nothing.
-use Rattle.std.proofs.Common.{◌≡◌, ℕ, zero, suc, ◌+◌, ◌-◌, ◌<◌, ◌≤◌, Bool, true, false, cond, eqb, ltb, leb, ◌⊎◌, List, length, sym, refl, ap, ◌∙◌, subst, ap₂, inl, inr, ⊎_elim, arith}
+use Rattle.std.proofs.Common.{◌≡◌, ℕ, zero, suc, ◌+◌, ◌-◌, ◌<◌, ◌≤◌, Bool, true, false, cond, eqb, ltb, leb, sym, refl, ap, ◌∙◌, subst, ap₂, inl, ⊎_elim, arith}
 use Rattle.std.proofs.lemmas.Bool.{cases_lt, cases_eq, cond-true, cond-false, cond_both, eq-eqb, ne_eqb, lt-ltb, le-ltb, le-leb, lt-leb, eqb-true, eqb-false, leb-true, leb-false}
 use Rattle.field.specs.Laws.{Operations, FieldLaws}
-use Rattle.row.specs.Polynomial.{value}
-use Rattle.row.specs.Interpolation.{sum_below, interpolate, Apart, Meets}
-use Rattle.row.proofs.Algebra.{ring, sum_comm, sum_assoc, sum_zero, zero_sum, difference_unique}
+use Rattle.row.specs.Interpolation.{sum_below, Apart, Meets}
+use Rattle.row.proofs.Algebra.{sum_comm, sum_assoc, sum_zero, difference_unique}
 use Rattle.row.proofs.Lagrange.{row_rule, poly_interpolate, interpolate_at, sum_as}
 use Rattle.array.specs.declared.parameters.Parameters.{Parameters}
-use Rattle.sheet.specs.declared.place.Place.{Place}
 use Rattle.array.specs.Layout.{steps, reach, wrap, offset, first_step, step_node, step_of, skip}
 use Rattle.array.specs.Symbols.{sum_to, sum_but, row_symbol, past, array}
-use Rattle.sheet.specs.Places.{at, listed, Agree}
-use Rattle.array.specs.Sheet.{row_places, local_places, far_places, listing, sheet}
+use Rattle.sheet.specs.Places.{at, Agree}
+use Rattle.array.specs.Sheet.{row_places, local_places, listing, sheet}
 use Rattle.array.specs.Recovered.{around, by_local_lem, recovered_at, recovered}
 use Rattle.array.specs.Theorems.{Recovers}
 use Rattle.array.proofs.Members.{In, listed_in, in_distinct}
-use Rattle.array.proofs.Wraps.{Wrapped, wrapped, wrapped_is, offset_below, offset_row, offset_node, skip_cases, skip_injective}
+use Rattle.array.proofs.Wraps.{wrapped, wrapped_is, offset_below, offset_row, offset_node, skip_cases, skip_injective}
 use Rattle.array.proofs.Parts.{in_row_places, in_row, in_own, in_step, in_far, far_row, far_local, in_local_node, in_local_step, in_local_past}
 
 module _ {F : Type 0} {o : Operations F} (laws : FieldLaws o) where

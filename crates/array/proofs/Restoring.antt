@@ -1,20 +1,20 @@
 -- Every node from the places of its read sheet. Assumes nothing.
-use Rattle.std.proofs.Common.{◌≡◌, ℕ, ◌+◌, ◌-◌, ◌*◌, ◌<◌, ◌≤◌, Bool, true, false, cond, ltb, ◌⊎◌, List, [], ◌∷◌, ◌++◌, map, length, sym, refl, ap, ◌∙◌, subst, ap₂, inl, inr, ⊎_elim, arith}
+use Rattle.std.proofs.Common.{◌≡◌, ℕ, ◌+◌, ◌-◌, ◌*◌, ◌<◌, ◌≤◌, ltb, length, sym, ap, ◌∙◌, subst, ap₂, ⊎_elim, arith}
 use Rattle.std.proofs.lemmas.Bool.{cases_lt, cond-true, cond-false, lt-ltb, le-ltb}
 use Rattle.field.specs.Laws.{Operations, FieldLaws}
 use Rattle.row.specs.Interpolation.{basis, Apart}
 use Rattle.row.proofs.Lagrange.{sum_as, exists, row_rule}
 use Rattle.sheet.specs.declared.place.Place.{Place}
 use Rattle.sheet.specs.declared.place.Part.TheVariants.{First}
-use Rattle.sheet.specs.Places.{at, listed, distinct, places_of, in_part, sheet_of, Agree}
+use Rattle.sheet.specs.Places.{at, distinct, places_of, in_part, sheet_of, Agree}
 use Rattle.array.specs.declared.parameters.Parameters.{Parameters}
 use Rattle.array.specs.Layout.{nodes, steps, wrap, offset, first_step, step_node, step_of}
 use Rattle.array.specs.Symbols.{row_symbol, past, array}
 use Rattle.array.specs.Sheet.{entries, listing, sheet, offset_places, least_offset, mend_entries, node_sheet}
 use Rattle.array.specs.Recovered.{recovered, restored}
-use Rattle.array.specs.Theorems.{RowRule, Rows, Restores, SizedClassA, SizedClassB, ParityPlaces}
+use Rattle.array.specs.Theorems.{Rows, Restores, SizedClassA, SizedClassB, ParityPlaces}
 use Rattle.array.proofs.Members.{In, listed_in, in_listed, in_distinct, from_distinct}
-use Rattle.array.proofs.Wraps.{Wrapped, wrapped, offset_step, offset_past}
+use Rattle.array.proofs.Wraps.{wrapped, offset_step, offset_past}
 use Rattle.array.proofs.Parts.{unpart}
 use Rattle.array.proofs.Kept.{in_offset, from_offset, offset_once, offset_length}
 use Rattle.array.proofs.Recovery.{sum_to_as, array_data, array_plain, array_piggyback, array_local, recovers}

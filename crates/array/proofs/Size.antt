@@ -1,17 +1,17 @@
 -- How many places the read sheet of a data node has. Assumes nothing.
-use Rattle.std.proofs.Common.{◌≡◌, ℕ, ◌+◌, ◌-◌, ◌*◌, ◌<◌, ◌≤◌, Bool, true, false, cond, eqb, ltb, ◌⊎◌, List, [], ◌∷◌, ◌++◌, map, length, sym, refl, ap, ◌∙◌, subst, ap₂, inl, inr, ⊎_elim, append_assoc, mul_comm, arith, length-append}
+use Rattle.std.proofs.Common.{◌≡◌, ℕ, ◌+◌, ◌-◌, ◌*◌, ◌<◌, ◌≤◌, cond, eqb, ltb, ◌⊎◌, List, [], ◌∷◌, ◌++◌, map, length, sym, refl, ap, ◌∙◌, subst, ap₂, inl, inr, ⊎_elim, append_assoc, mul_comm, arith, length-append}
 use Rattle.std.specs.List.{range_with_len}
 use Rattle.std.proofs.lemmas.List.FromFn.{length-map-range_with_len}
 use Rattle.std.proofs.lemmas.Bool.{cases_eq, cases_lt, cond-true, cond-false, eq-eqb, ne_eqb, lt-ltb, le-ltb}
 use Rattle.array.specs.declared.parameters.Parameters.{Parameters}
 use Rattle.sheet.specs.declared.place.Place.{Place}
-use Rattle.array.specs.Layout.{steps, reach, wrap, step_node, first_step, skip}
+use Rattle.array.specs.Layout.{steps, reach, wrap, step_node, skip}
 use Rattle.sheet.specs.Places.{at, distinct_from, distinct}
 use Rattle.array.specs.Each.{each}
-use Rattle.array.specs.Sheet.{row_places, step_places, local_places, far_places, far_offsets, listing, sheet}
+use Rattle.array.specs.Sheet.{row_places, step_places, local_places, far_places, far_offsets, sheet}
 use Rattle.array.specs.Theorems.{sheet_size, Sized, SizedRows}
-use Rattle.array.proofs.Members.{In, in_left, in_right, in_append, from_map, from_counting}
-use Rattle.array.proofs.Wraps.{Wrapped, wrapped, wrapped_is, skip_cases, skip_onto, skip_injective, skip_not}
+use Rattle.array.proofs.Members.{In, in_left, in_append, from_map, from_counting}
+use Rattle.array.proofs.Wraps.{wrapped, wrapped_is, skip_cases, skip_onto, skip_injective}
 use Rattle.array.proofs.Parts.{listing_parts, in_row_places, far_row, far_local}
 use Rattle.array.proofs.Restoring.{sheet_data}
 use Rattle.array.proofs.Once.{Once, Disjoint, once_map, distinct_append, distinct_new, distinct_old, distinct_once, distinct_each, disjoint_append, length_each, length_each_but}

@@ -1,8 +1,8 @@
 -- Each place of a sheet has a record of its own in the working memory. Assumes nothing.
-use Rattle.std.proofs.Common.{◌≡◌, ℕ, zero, suc, ◌+◌, ◌-◌, ◌*◌, ◌/◌, ◌<◌, ◌≤◌, Bool, true, cond, ◌&&◌, eqb, ltb, leb, ◌⊎◌, List, [], ◌∷◌, ◌++◌, map, sym, refl, ap, ◌∙◌, subst, ap₂, inl, inr, ⊎_elim, mul-le-mul_left, mul-add, arith}
+use Rattle.std.proofs.Common.{◌≡◌, ℕ, zero, suc, ◌+◌, ◌-◌, ◌*◌, ◌/◌, ◌<◌, ◌≤◌, true, cond, ◌&&◌, eqb, ltb, leb, ◌⊎◌, ◌++◌, sym, refl, ap, ◌∙◌, subst, ap₂, inl, inr, ⊎_elim, mul-le-mul_left, mul-add, arith}
 use native.Mathlib.Nat.{mul-add-div, div-eq_of_lt}
 use Rattle.std.specs.List.{range_with_len}
-use Rattle.std.proofs.lemmas.Bool.{cases_lt, cases_eq, cond-true, cond-false, cond_both, and_from, eq-eqb, ne_eqb, lt-ltb, le-ltb, le-leb, lt-leb}
+use Rattle.std.proofs.lemmas.Bool.{cases_lt, cases_eq, cond-true, cond-false, and_from, eq-eqb, ne_eqb, lt-ltb, le-ltb, le-leb, lt-leb}
 use Rattle.sheet.specs.declared.place.Place.{Place}
 use Rattle.sheet.specs.Places.{at, listed}
 use Rattle.array.specs.declared.parameters.Parameters.{Parameters}
@@ -11,7 +11,7 @@ use Rattle.array.specs.Each.{each}
 use Rattle.array.specs.Sheet.{row_places, step_places, local_places, far_places, far_offsets, listing, sheet, least_offset, node_sheet, given_row, slot}
 use Rattle.array.specs.Theorems.{Slots}
 use Rattle.array.proofs.Members.{In, in_append, from_map, from_counting, from_each, in_listed, from_distinct}
-use Rattle.array.proofs.Wraps.{Wrapped, wrapped, wrapped_is, skip_cases}
+use Rattle.array.proofs.Wraps.{wrapped, wrapped_is, skip_cases}
 use Rattle.array.proofs.Parts.{listing_parts, far_row, far_local}
 use Rattle.array.proofs.Kept.{from_offset}
 use Rattle.array.proofs.Restoring.{sheet_data, sheet_parity}

@@ -1,16 +1,16 @@
 -- Each place of a node's read sheet stands on the array, at another node. Assumes nothing.
-use Rattle.std.proofs.Common.{◌≡◌, ℕ, zero, suc, ◌+◌, ◌-◌, ◌*◌, ◌<◌, ◌≤◌, true, cond, eqb, ltb, ◌⊎◌, List, [], ◌∷◌, ◌++◌, map, length, sym, refl, ap, ◌∙◌, subst, inl, inr, ⊎_elim, add-mul, mul-le-mul, mul-add, arith}
+use Rattle.std.proofs.Common.{◌≡◌, ℕ, zero, suc, ◌+◌, ◌-◌, ◌*◌, ◌<◌, ◌≤◌, ◌++◌, length, sym, refl, ap, ◌∙◌, subst, inl, inr, ⊎_elim, add-mul, mul-le-mul, mul-add, arith}
 use Rattle.std.specs.List.{range_with_len}
-use Rattle.std.proofs.lemmas.Bool.{cases_lt, cases_eq, cond-true, cond-false, lt-ltb, le-ltb}
+use Rattle.std.proofs.lemmas.Bool.{cases_lt, cases_eq}
 use Rattle.array.specs.declared.parameters.Parameters.{Parameters}
 use Rattle.sheet.specs.declared.place.Place.{Place}
-use Rattle.array.specs.Layout.{nodes, steps, reach, wrap, offset, step_node, step_of, skip}
-use Rattle.sheet.specs.Places.{at, listed, distinct, places_of, sheet_of}
+use Rattle.array.specs.Layout.{nodes, steps, reach, wrap, offset, step_node, skip}
+use Rattle.sheet.specs.Places.{at, distinct, places_of, sheet_of}
 use Rattle.array.specs.Each.{each}
-use Rattle.array.specs.Sheet.{row_places, step_places, local_places, far_places, far_offsets, listing, sheet, offset_places, least_offset, mend_entries, node_sheet}
-use Rattle.array.specs.Theorems.{Standing, AllStand, sheet_size}
+use Rattle.array.specs.Sheet.{row_places, step_places, local_places, far_places, far_offsets, listing, sheet, least_offset, mend_entries, node_sheet}
+use Rattle.array.specs.Theorems.{AllStand, sheet_size}
 use Rattle.array.proofs.Members.{In, in_append, from_map, from_counting, from_each, in_listed, listed_in, in_distinct, from_distinct}
-use Rattle.array.proofs.Wraps.{Wrapped, wrapped, offset_cases, skip_cases, skip_not}
+use Rattle.array.proofs.Wraps.{wrapped, offset_cases, skip_cases, skip_not}
 use Rattle.array.proofs.Parts.{listing_parts, in_row, far_row, far_local}
 use Rattle.array.proofs.Once.{distinct_twice}
 use Rattle.array.proofs.Kept.{in_offset, from_offset, offset_length}

@@ -1,5 +1,5 @@
 -- Which parameters a code may have, and the number that says why others are declined. Assumes nothing.
-use Rattle.std.specs.Prelude.{◌≡◌, ℕ, ◌+◌, ◌-◌, cond, ◌||◌, Some, None, Option, nat_le, nat_lt}
+use Rattle.std.specs.Prelude.{ℕ, ◌+◌, ◌-◌, cond, ◌||◌, Some, None, Option, nat_le, nat_lt}
 use Rattle.array.specs.declared.fault.ParameterFault.{ParameterFault}
 use Rattle.array.specs.declared.fault.ParameterFault.TheVariants.{DataNodes, ClassA, Piggybacks, ClassB, SmallField}
 

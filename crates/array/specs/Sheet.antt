@@ -1,10 +1,9 @@
 -- The read sheets: which places a mend reads, in which order, and where each is kept. Assumes nothing.
-use Rattle.std.specs.Prelude.{ℕ, ◌+◌, ◌-◌, ◌*◌, cond, ◌&&◌, List, [], ◌∷◌, ◌++◌, map, ◌==◌, nat_lt}
+use Rattle.std.specs.Prelude.{ℕ, ◌+◌, ◌-◌, ◌*◌, cond, ◌&&◌, List, ◌∷◌, ◌++◌, map, ◌==◌, nat_lt}
 use Rattle.std.specs.List.{range_with_len}
 use Rattle.array.specs.declared.parameters.Parameters.{Parameters}
 use Rattle.sheet.specs.declared.place.Place.{Place}
 use Rattle.sheet.specs.declared.place.Entry.{Entry}
-use Rattle.sheet.specs.declared.place.Part.{Part}
 use Rattle.sheet.specs.declared.place.Part.TheVariants.{First, Second, Third, Fourth}
 use Rattle.array.specs.Layout.{nodes, steps, reach, wrap, first_step, step_node, step_of, skip}
 use Rattle.sheet.specs.Places.{at, distinct, places_of, in_part, sheet_of}

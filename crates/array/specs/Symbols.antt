@@ -3,7 +3,7 @@ use Rattle.std.specs.Prelude.{ℕ, ◌+◌, ◌-◌, cond, ◌==◌, nat_le, nat
 use Rattle.field.specs.Laws.{Operations}
 use Rattle.row.specs.Interpolation.{sum_below, interpolate}
 use Rattle.array.specs.declared.parameters.Parameters.{Parameters}
-use Rattle.array.specs.Layout.{steps, wrap, first_step, step_of}
+use Rattle.array.specs.Layout.{wrap, first_step, step_of}
 
 -- f 1 + f 2 + .. + f n
 unfoldable pub sum_to : {F : Type 0} → Operations F → ℕ → (ℕ → F) → F

@@ -1,4 +1,6 @@
 // A code array of k data nodes, a nodes of Class A, the last tau of them piggybacked, and b nodes of Class B.
+#![tactic(auto)]
+
 ghost use Rattle.std.specs.Prelude.{◌≤◌};
 ghost use Rattle.row.specs.Numbered.{numbered as numbered_of};
 ghost use Rattle.array.specs.Theorems.{Rows, Recovers, Restores, Sized, SizedRows, SizedClassA, SizedClassB, ParityPlaces, AllStand, Slots};

@@ -1,5 +1,5 @@
 -- What each call on a bank leaves.
-use Rattle.std.proofs.Common.{◌≡◌, ℕ, ◌+◌, ◌-◌, ◌*◌, ◌<◌, ◌≤◌, cond, ◌&&◌, ltb, leb, List, length, set, is_ok, Some, None, Ok, Err, sym, ap, arith}
+use Rattle.std.proofs.Common.{◌≡◌, ℕ, ◌+◌, ◌-◌, ◌*◌, ◌<◌, ◌≤◌, cond, ◌&&◌, ltb, leb, List, length, set, is_ok, Some, Ok, sym, ap, arith}
 use Rattle.store.specs.Meaning.{probed, read, written, cleared, refreshed, summed, total}
 use Rattle.store.specs.Beyond.{Beyond}
 use Rattle.store.proofs.Same.{answered_on}

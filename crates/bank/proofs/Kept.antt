@@ -1,14 +1,14 @@
 -- What a change of cells leaves of what they mean.
-use Rattle.std.proofs.Common.{◌≡◌, ℕ, ◌+◌, ◌-◌, ◌*◌, ◌<◌, ◌≤◌, min, Bool, true, false, cond, ◌&&◌, eqb, ltb, leb, List, length, get_or, set, is_ok, Some, None, Ok, Err, Option, sym, refl, ap, ◌∙◌, arith}
+use Rattle.std.proofs.Common.{◌≡◌, ℕ, ◌+◌, ◌-◌, ◌*◌, ◌<◌, ◌≤◌, min, true, false, cond, ◌&&◌, eqb, ltb, leb, List, length, set, is_ok, Some, Ok, Option, sym, ap, ◌∙◌, arith}
 use Rattle.std.proofs.lemmas.List.{get_or-set_same, get_or-set_other, length-set}
-use Rattle.std.proofs.lemmas.Bool.{cases_eq, eqb-false, lt-ltb, cond-true}
+use Rattle.std.proofs.lemmas.Bool.{lt-ltb, cond-true}
 use Rattle.std.proofs.lemmas.Bool.Decides.{nat_tests}
-use Rattle.store.specs.Meaning.{Meaning, Sound, on, probed, read, written, refreshed, cleared, total, summed, blank}
+use Rattle.store.specs.Meaning.{probed, read, written, refreshed, cleared, total, summed, blank}
 use Rattle.store.specs.Beyond.{Beyond}
-use Rattle.store.specs.Laid.{laid, spot}
+use Rattle.store.specs.Laid.{spot}
 use Rattle.store.proofs.Rest.{beyond_each}
 use Rattle.store.proofs.Same.{probed_ok}
-use Rattle.store.proofs.Lay.{spot_below, laid_written, laid_read, laid_cleared, laid_refreshed, laid_sound, laid_blank, laid_total}
+use Rattle.store.proofs.Lay.{spot_below, laid_written, laid_read, laid_cleared, laid_refreshed, laid_blank, laid_total}
 use Rattle.bank.specs.declared.cell.Cell.{Cell}
 use Rattle.bank.specs.Cells.{cell, bare, kept}
 

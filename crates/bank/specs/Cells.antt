@@ -1,5 +1,5 @@
 -- What the cells of a memory bank mean. Assumes nothing.
-use Rattle.std.specs.Prelude.{ℕ, min, List, Some, None, slice_index_or}
+use Rattle.std.specs.Prelude.{ℕ, min, List, None, slice_index_or}
 use Rattle.bank.specs.declared.cell.Cell.{Cell}
 use Rattle.store.specs.Meaning.{Meaning}
 use Rattle.store.specs.Laid.{laid}

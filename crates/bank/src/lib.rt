@@ -1,4 +1,6 @@
 // The memory bank: a store in cells that the caller lends, one a place.
+#![tactic(auto)]
+
 ghost use Rattle.std.specs.Prelude.{◌≡◌, ◌*◌, ◌≤◌, true, length, is_err};
 ghost use Rattle.store.specs.Meaning.{blank as fresh, probed, placed, summed, read as reads, written, cleared, refreshed};
 ghost use Rattle.store.specs.Fit.{Checked};

@@ -1,5 +1,5 @@
 -- The rule of a table of the powers of x: it begins with 1, and each entry is x times the one before. Assumes nothing.
-use Rattle.std.proofs.Common.{◌≡◌, ℕ, zero, suc, ◌+◌, ◌<◌, Bool, true, false, T, eqb, List, [], ◌∷◌, length, get_or, sym, refl, ap, ◌∙◌, add-zero, add-suc, suc-add, zero-add, arith, eqb→eq}
+use Rattle.std.proofs.Common.{◌≡◌, ℕ, zero, suc, ◌+◌, ◌<◌, Bool, true, T, eqb, List, [], ◌∷◌, length, get_or, sym, refl, ap, ◌∙◌, add-zero, add-suc, suc-add, zero-add, arith, eqb→eq}
 use Rattle.byte.specs.Polynomial.{times_x, power}
 use Rattle.byte.specs.Tested.{both, both_left, both_right}
 

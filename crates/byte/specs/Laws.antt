@@ -1,12 +1,12 @@
 -- Bytes keep the laws of a field, and their numbers number them. Assumes nothing.
-use Rattle.std.specs.Prelude.{◌≡◌, ℕ, ◌%◌, ◌<◌, ◌≤◌, cond, Some, None, Option, bit_xor, nat_lt, refl}
+use Rattle.std.specs.Prelude.{◌≡◌, ℕ, ◌<◌, ◌≤◌, Some, None, bit_xor, nat_lt, refl}
 use Rattle.std.proofs.Common.{sym, ap, ◌∙◌, arith, lit<, lit≤}
 use mathlib.Core.HLevel.{is_prop→PathP}
 use Rattle.std.proofs.Math.Bridge.{le_prop}
 use Rattle.std.proofs.lemmas.Nat.{xor_comm, xor_lt}
 use Rattle.std.specs.Int.Bits.{xor_assoc, xor_self, xor_zero_r}
 use Rattle.std.proofs.lemmas.Bool.{cond-true, cond-false, lt-ltb, le-ltb}
-use Rattle.field.specs.Laws.{Operations, FieldLaws, Numbering}
+use Rattle.field.specs.Laws.{FieldLaws, Numbering}
 use Rattle.byte.specs.declared.byte.Byte.{Byte}
 use Rattle.byte.specs.Bytes.{byte, byte_product, byte_inverse, byte_operations, byte_symbol, byte_number}
 use Rattle.byte.specs.Remainder.{product_lt}

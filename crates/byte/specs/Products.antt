@@ -1,11 +1,10 @@
 -- The product of bytes keeps the laws of a field, and so does the inverse. Assumes nothing.
 use Rattle.std.specs.Prelude.{◌≡◌, ℕ, zero, suc, ◌+◌, ◌-◌, ◌<◌, ◌≢◌, bit_xor, refl}
-use Rattle.std.proofs.Common.{sym, ap, ap₂, ◌∙◌, arith, lit<}
-use Rattle.std.proofs.lemmas.Nat.{xor_lt}
+use Rattle.std.proofs.Common.{sym, ap, ap₂, ◌∙◌, lit<}
 use Rattle.byte.specs.Polynomial.{power}
 use Rattle.byte.specs.Bytes.{byte_product, raised, byte_inverse}
 use Rattle.byte.specs.Remainder.{product_times, product_lt}
-use Rattle.byte.specs.Times.{times, to_the, times_lt, times_comm, times_assoc, times_distributes, times_one, times_inverse, to_the_lt, zero_to_the, inverse_by, power_times, zero_times, times_zero}
+use Rattle.byte.specs.Times.{times, to_the, times_comm, times_assoc, times_distributes, times_one, times_inverse, zero_to_the, inverse_by, power_times, zero_times, times_zero}
 
 pub product_comm : (a b : ℕ) → a < 256 → b < 256 → byte_product a b ≡ byte_product b a
 product_comm a b ha hb = product_times a b ha ∙ times_comm a b ha hb ∙ sym (product_times b a hb)

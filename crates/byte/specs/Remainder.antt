@@ -1,7 +1,7 @@
 -- Remainders by the modulus: there is one, it is the only one, and the product reduced at each step is the one of the
 -- product of the polynomials. Assumes nothing.
 use Rattle.std.specs.Prelude.{◌≡◌, ℕ, zero, suc, ◌+◌, ◌*◌, ◌/◌, ◌%◌, ◌^◌, ◌<◌, ◌≤◌, Bool, true, false, cond, ◌==◌, ◌≢◌, bit_xor, refl}
-use Rattle.std.proofs.Common.{sym, ap, ap₂, ◌∙◌, ⊎_elim, add-suc, arith, lit<}
+use Rattle.std.proofs.Common.{sym, ap, ap₂, ◌∙◌, ⊎_elim, arith, lit<}
 use Rattle.std.proofs.Math.Path.{subst}
 use Rattle.std.specs.Int.Bits.{xor_assoc, xor_self, xor_zero_r, xor_zero_l, xor_shifted}
 use Rattle.std.proofs.Math.Dec.{lit≤}

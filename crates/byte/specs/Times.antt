@@ -3,7 +3,7 @@ use Rattle.std.specs.Prelude.{◌≡◌, ℕ, zero, suc, ◌+◌, ◌-◌, ◌*�
 use Rattle.std.proofs.Math.Path.{refl}
 use Rattle.std.proofs.Common.{sym, ap, ap₂, ◌∙◌, add-zero, suc-add, zero-add, add_comm, add_assoc, zero-mul, suc-mul, arith, eqb→eq, ltb→lt, lit<}
 use Rattle.std.proofs.lemmas.Nat.{xor_comm, xor_block, xor_shr, xor_lt}
-use Rattle.std.specs.Int.Bits.{xor_assoc, xor_zero_r, xor_zero_l}
+use Rattle.std.specs.Int.Bits.{xor_assoc, xor_zero_r}
 use Rattle.std.proofs.lemmas.Bool.{cond-true, cond-false, eq-eqb, ne_eqb}
 use Rattle.byte.specs.Polynomial.{times_x, power}
 use Rattle.byte.specs.Tested.{both, each, both_left, both_right, at}

@@ -1,4 +1,6 @@
 // Byte symbols: the field of 256 elements whose symbols are the bytes.
+#![tactic(auto)]
+
 mod arithmetic;
 mod byte;
 mod conversion;

@@ -1,6 +1,5 @@
 -- The value of a polynomial over bytes. Assumes nothing.
 use Rattle.std.specs.Prelude.{ℕ, zero, suc, List, slice_index_or}
-use Rattle.field.specs.Laws.{Operations}
 use Rattle.byte.specs.declared.byte.Byte.{Byte}
 use Rattle.byte.specs.Bytes.{byte, byte_operations}
 

@@ -1,4 +1,6 @@
 // Byte symbols and the row rule over them, for a benchmark to call from outside.
+#![tactic(auto)]
+
 ghost use Rattle.std.specs.Prelude.{◌≡◌, length};
 ghost use Rattle.byte.specs.Bytes.{byte_operations, byte_symbol};
 ghost use Rattle.row.specs.Weights.{weighed, data_weights};

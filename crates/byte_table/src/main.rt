@@ -1,4 +1,6 @@
 // Writes, for each byte of standard input, a line with the byte, its inverse, and its products with the bytes 0 to 255.
+#![tactic(auto)]
+
 use byte::Byte;
 use field::Field;
 use std::io;

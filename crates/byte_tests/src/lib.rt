@@ -1,3 +1,5 @@
+#![tactic(auto)]
+
 // Worked products, inverses, numbers and a row of byte symbols.
 #[cfg(test)]
 mod tests {

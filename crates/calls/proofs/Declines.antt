@@ -1,13 +1,12 @@
 -- What a passed test of a call says. Assumes nothing.
-use Rattle.std.proofs.Common.{◌≡◌, ℕ, zero, suc, ◌+◌, ◌*◌, ◌<◌, ◌≤◌, Bool, true, false, cond, ◌&&◌, ◌||◌, eqb, ltb, leb, ◌⊎◌, Some, None, Ok, Err, Option, Result, sym, refl, ap, ◌∙◌, inl, inr, arith}
-use Rattle.std.proofs.lemmas.Bool.{leb-true, ltb-true, lt-ltb, le-leb, eqb-true, and_parts, and_from, cond-true, cond-false, cases_eq, ne_eqb}
+use Rattle.std.proofs.Common.{◌≡◌, ℕ, zero, suc, ◌<◌, ◌≤◌, Bool, true, false, cond, ◌&&◌, ◌||◌, eqb, ltb, leb, ◌⊎◌, Some, None, Ok, Err, Option, refl, ap, ◌∙◌, inl, inr, arith}
+use Rattle.std.proofs.lemmas.Bool.{leb-true, ltb-true, lt-ltb, le-leb, and_parts, and_from, cond-true, cond-false, cases_eq, ne_eqb}
 use Rattle.store.specs.Meaning.{Meaning, on, judged, probed, fault}
-use Rattle.store.specs.declared.fault.StoreFault.{StoreFault}
-use Rattle.store.specs.declared.fault.Cause.TheVariants.{OffStore, Blank, Worn}
+use Rattle.store.specs.declared.fault.Cause.TheVariants.{OffStore, Worn}
 use Rattle.code.specs.Codes.{CodeMeaning, is_blank}
-use Rattle.calls.specs.Calls.{fits, suited, make_decline, set_decline, node_decline, put_decline, fetch_decline, mend_decline, lost, any_blank}
+use Rattle.calls.specs.Calls.{fits, suited, node_decline, put_decline, fetch_decline, mend_decline, lost, any_blank}
 use Rattle.calls.specs.declared.call.Reason.{Reason}
-use Rattle.calls.specs.declared.call.Reason.TheVariants.{SmallField, SmallStore, OutOfRange, WrongLength, ShortMemory, NotLost}
+use Rattle.calls.specs.declared.call.Reason.TheVariants.{SmallField, SmallStore, OutOfRange, ShortMemory, NotLost}
 
 -- a test that was passed
 pub passed : {A : Type 0} (b : Bool) (o : Option A) (x : A) → cond b o (Some x) ≡ None → (b ≡ true) × (o ≡ None)

@@ -1,12 +1,11 @@
 -- Sums over rows and nodes, and how many places a sheet has. Assumes nothing.
-use Rattle.std.proofs.Common.{◌≡◌, ℕ, zero, suc, ◌+◌, ◌*◌, ◌<◌, ◌≤◌, Bool, true, false, cond, ◌&&◌, ◌||◌, eqb, ltb, ◌⊎◌, List, [], ◌∷◌, ◌++◌, length, sym, refl, ap, ◌∙◌, inl, inr, le_trans, le_of_eq, suc-mul, add-mul, arith}
-use mathlib.Core.Path.{fun_ext}
+use Rattle.std.proofs.Common.{◌≡◌, ℕ, zero, suc, ◌+◌, ◌*◌, ◌<◌, ◌≤◌, Bool, true, false, cond, ◌&&◌, ◌||◌, eqb, ◌⊎◌, List, [], ◌∷◌, ◌++◌, length, sym, refl, ap, ◌∙◌, inl, inr, suc-mul, arith}
 use Rattle.std.proofs.lemmas.List.{length_push}
-use Rattle.std.proofs.lemmas.Bool.{eqb-true, eqb-false, eq-eqb, ne_eqb, cond-true, cond-false, cases_eq, both_ways, or_left, or_right, lt-ltb}
+use Rattle.std.proofs.lemmas.Bool.{eq-eqb, ne_eqb, cond-true, cond-false, cases_eq, both_ways, or_left, or_right}
 use Rattle.store.specs.Meaning.{total}
 use Rattle.sheet.specs.declared.place.Place.{Place}
 use Rattle.sheet.specs.Places.{at, same_place, listed, with_place, distinct_from, distinct}
-use Rattle.sheet.proofs.Lists.{listed_push, same_place_true, same_place_path, same_place_refl, listed_distinct}
+use Rattle.sheet.proofs.Lists.{listed_push, same_place_path, same_place_refl, listed_distinct}
 
 -- one or zero
 abbrev pub bit : Bool → ℕ

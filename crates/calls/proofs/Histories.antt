@@ -1,28 +1,27 @@
 -- Every history keeps the claims. Assumes nothing.
-use Rattle.std.proofs.Common.{◌≡◌, ℕ, ◌+◌, ◌*◌, ◌<◌, ◌≤◌, Bool, true, false, cond, ◌&&◌, eqb, ltb, leb, ◌⊎◌, List, [], ◌∷◌, map, length, get_or, Some, None, Ok, Err, Option, Result, sym, refl, ap, ◌∙◌, subst, inl, inr, arith}
+use Rattle.std.proofs.Common.{◌≡◌, ℕ, ◌+◌, ◌*◌, ◌<◌, ◌≤◌, true, cond, ◌&&◌, eqb, ltb, leb, List, [], ◌∷◌, map, length, get_or, Some, None, Ok, Err, Option, Result, refl, ap, ◌∙◌, subst, inl, inr, arith}
 use lib.ListN.{get_or-map}
 use Rattle.std.proofs.lemmas.List.{length-map}
 use Rattle.std.proofs.lemmas.Bool.{lt-ltb, eq-eqb, and_from, cond-true}
 use Rattle.field.specs.Laws.{Operations}
-use Rattle.store.specs.Meaning.{Meaning, probed, cleared, refreshed, fault}
-use Rattle.sheet.specs.declared.place.Place.{Place}
+use Rattle.store.specs.Meaning.{Meaning, cleared, refreshed}
 use Rattle.sheet.specs.declared.place.Entry.{Entry}
-use Rattle.sheet.specs.Places.{at, listed, distinct, places_of, sheet_of}
+use Rattle.sheet.specs.Places.{at, listed, places_of, sheet_of}
 use Rattle.sheet.proofs.Lists.{listed_distinct, listed_at}
 use Rattle.code.specs.Codes.{CodeMeaning, CodeLaws, blanks}
-use Rattle.calls.specs.Reading.{raised, painted, in_array, in_node, blank_below}
-use Rattle.calls.specs.Calls.{fits, lost, Made, make_decline, set_decline, node_decline, put_decline, fetch_decline, mend_decline, Sheeted, Unread, SetDone, PutDone, FetchDone, FetchedBy, LoseDone, RefreshDone, MendDone, data_of, array_set, node_meters, patched, given_by, found, fetch_recipe, mend_recipe, mend_sheet, mended}
+use Rattle.calls.specs.Reading.{raised, painted, in_array, in_node}
+use Rattle.calls.specs.Calls.{fits, lost, Made, make_decline, set_decline, node_decline, put_decline, fetch_decline, mend_decline, Sheeted, SetDone, PutDone, FetchDone, FetchedBy, LoseDone, RefreshDone, MendDone, data_of, array_set, node_meters, patched, given_by, found, fetch_recipe, mend_recipe, mend_sheet, mended}
 use Rattle.calls.specs.History.{Ask, set, put, fetch, lose, refresh, mend, Event, Step, Leads, mapped, found_answer, ledger}
-use Rattle.calls.specs.Theorem.{Claims, Latest, MendClaims, AloneLost, Unworn, Held, Suited, Extended, Extends, Begun}
+use Rattle.calls.specs.Theorem.{Claims, Latest, MendClaims, AloneLost, Unworn, Held, Suited, Extends, Begun}
 use Rattle.calls.specs.declared.call.CallName.TheVariants.{Set, Put, Fetch, Lose, Refresh, Mend}
 use Rattle.calls.specs.declared.call.Reason.{Reason}
 use Rattle.calls.specs.declared.call.Reason.TheVariants.{OutOfRange, WrongLength, ShortMemory, NotLost}
 use Rattle.calls.specs.declared.call.CallFault.{CallFault}
 use Rattle.calls.specs.declared.call.Answer.{Answer}
 use Rattle.calls.specs.declared.call.Answer.TheVariants.{Counted, Fetched, Cleared}
-use Rattle.calls.proofs.Declines.{suited_passed, node_passed, put_passed, fetch_passed, mend_passed, mend_open, fits_parts, fits_on, probed_held, unlost}
+use Rattle.calls.proofs.Declines.{suited_passed, node_passed, put_passed, fetch_passed, mend_passed, mend_open, fits_on, probed_held, unlost}
 use Rattle.calls.proofs.Keeping.{Clear, event, moved, kept_made, kept_declined, kept_set, kept_put, kept_lose, kept_refresh, kept_fetch, kept_mend, fetched_right}
-use Rattle.calls.proofs.Outcomes.{Outcome, Accepted, Refused, plain_outcome, sheet_outcome, Others, others_none, others_cond, others_suited, other_range, other_length, other_memory, other_lost, suited_outcome}
+use Rattle.calls.proofs.Outcomes.{Outcome, Refused, plain_outcome, sheet_outcome, others_none, others_cond, others_suited, other_range, other_length, other_memory, other_lost, suited_outcome}
 
 clear_none : {F : Type 0} (m : Meaning F) → Clear m []
 unfolding listed places_of

@@ -1,18 +1,18 @@
 -- Each accepted call keeps the claims, and so does every declined one. Assumes nothing.
-use Rattle.std.proofs.Common.{◌≡◌, ℕ, zero, suc, ◌+◌, ◌*◌, ◌<◌, ◌≤◌, Bool, true, false, cond, ◌&&◌, ◌||◌, eqb, ltb, leb, ◌⊎◌, List, [], ◌∷◌, length, get_or, Some, None, Ok, Err, Option, Result, sym, refl, ap, ◌∙◌, subst, inl, inr, arith}
+use Rattle.std.proofs.Common.{◌≡◌, ℕ, ◌+◌, ◌*◌, ◌<◌, ◌≤◌, Bool, true, false, cond, ◌&&◌, eqb, ltb, List, [], ◌∷◌, length, get_or, Some, None, Ok, Err, Option, Result, sym, refl, ap, ◌∙◌, subst, arith}
 use mathlib.Core.Path.{fun_ext}
-use Rattle.std.proofs.lemmas.Bool.{lt-ltb, le-ltb, ltb-true, eqb-true, eq-eqb, ne_eqb, and_from, and_parts, cond-true, cond-false}
+use Rattle.std.proofs.lemmas.Bool.{lt-ltb, le-ltb, eqb-true, ne_eqb, and_from, and_parts, cond-true, cond-false}
 use Rattle.field.specs.Laws.{Operations}
-use Rattle.store.specs.Meaning.{Meaning, total, probed, cleared, refreshed}
+use Rattle.store.specs.Meaning.{Meaning, probed, cleared, refreshed}
 use Rattle.sheet.specs.declared.place.Place.{Place}
 use Rattle.sheet.specs.declared.place.Entry.{Entry}
-use Rattle.sheet.specs.Places.{at, listed, distinct, places_of, sheet_of}
-use Rattle.sheet.proofs.Lists.{listed_distinct, listed_one, listed_at, same_place_refl}
-use Rattle.code.specs.Codes.{CodeMeaning, CodeLaws, Recipe, Change, Recovers, Replaces, is_blank, blanks, replaced}
+use Rattle.sheet.specs.Places.{at, listed, places_of, sheet_of}
+use Rattle.sheet.proofs.Lists.{listed_distinct, listed_one, listed_at}
+use Rattle.code.specs.Codes.{CodeMeaning, CodeLaws, Recipe, Recovers, Replaces, is_blank, blanks, replaced}
 use Rattle.calls.specs.Reading.{or_else, symbol_at, seen, raised, painted, in_array, in_node, blank_below}
 use Rattle.calls.specs.Calls.{fits, Made, data_of, array_set, node_meters, patched, given_by, held, fetch_recipe, mend_recipe, mend_sheet, mended}
 use Rattle.calls.specs.History.{Ask, set, put, fetch, lose, refresh, mend, Event, entered, ledger, Empty, Full, known, count_of, counts, cleared_of, clearings}
-use Rattle.calls.specs.Theorem.{all_meters, Claims, Held}
+use Rattle.calls.specs.Theorem.{all_meters, Claims}
 use Rattle.calls.specs.declared.call.Answer.{Answer}
 use Rattle.calls.specs.declared.call.Answer.TheVariants.{Counted, Fetched, Cleared}
 use Rattle.calls.specs.declared.call.CallFault.{CallFault}

@@ -1,5 +1,5 @@
 -- How a call can end: accepted, with what it answers and leaves, or declined for a reason, with nothing changed. Assumes nothing.
-use Rattle.std.proofs.Common.{◌≡◌, ℕ, ◌≤◌, Bool, true, false, cond, ◌⊎◌, List, [], ◌∷◌, Some, None, Ok, Err, Option, Result, sym, refl, ap, ◌∙◌, subst, inl, inr, arith}
+use Rattle.std.proofs.Common.{◌≡◌, ℕ, ◌≤◌, Bool, true, false, cond, ◌⊎◌, List, Some, None, Ok, Err, Option, Result, sym, refl, ap, ◌∙◌, subst, inl, inr, arith}
 use Rattle.store.specs.Meaning.{Meaning}
 use Rattle.sheet.specs.declared.place.Entry.{Entry}
 use Rattle.code.specs.Codes.{CodeMeaning}
@@ -9,7 +9,7 @@ use Rattle.calls.specs.declared.call.Reason.TheVariants.{SmallField, SmallStore,
 use Rattle.calls.specs.declared.call.SheetFault.{SheetFault}
 use Rattle.calls.specs.declared.call.CallFault.{CallFault}
 use Rattle.calls.specs.declared.call.Answer.{Answer}
-use Rattle.calls.specs.Calls.{answered, unless, Plain, Sheeted, Read, Unread, Declined, fits, suited}
+use Rattle.calls.specs.Calls.{answered, unless, Plain, Sheeted, fits, suited}
 use Rattle.calls.specs.History.{mapped}
 use Rattle.calls.specs.Theorem.{Suited}
 use Rattle.calls.proofs.Keeping.{Clear}

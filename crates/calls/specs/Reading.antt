@@ -1,5 +1,5 @@
 -- What reading the places of a sheet leaves and gives. Assumes nothing.
-use Rattle.std.specs.Prelude.{◌≡◌, ℕ, ◌+◌, Bool, cond, ◌&&◌, List, map, Some, None, Option, ◌==◌, nat_lt}
+use Rattle.std.specs.Prelude.{ℕ, ◌+◌, Bool, cond, ◌&&◌, List, map, Some, None, Option, ◌==◌, nat_lt}
 use Rattle.store.specs.Meaning.{Meaning}
 use Rattle.sheet.specs.declared.place.Place.{Place}
 use Rattle.sheet.specs.declared.place.Record.{Record}

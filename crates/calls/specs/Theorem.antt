@@ -1,15 +1,15 @@
 -- What holds after each call of every history. Assumes nothing.
-use Rattle.std.specs.Prelude.{◌≡◌, ℕ, ◌+◌, ◌<◌, ◌≤◌, Bool, true, false, cond, List, [], ◌∷◌, length, Some, None, Ok, Err, Option, Result, ◌≢◌}
+use Rattle.std.specs.Prelude.{◌≡◌, ℕ, ◌+◌, ◌<◌, ◌≤◌, true, false, cond, List, [], ◌∷◌, length, Some, None, Ok, Err, Result, ◌≢◌}
 use Rattle.field.specs.Laws.{Operations}
-use Rattle.store.specs.Meaning.{Meaning, Sound, total}
+use Rattle.store.specs.Meaning.{Meaning, total}
 use Rattle.sheet.specs.declared.place.Place.{Place}
 use Rattle.sheet.specs.Places.{at, listed}
 use Rattle.code.specs.Codes.{CodeMeaning, CodeLaws}
 use Rattle.calls.specs.declared.call.Answer.{Answer}
-use Rattle.calls.specs.declared.call.Answer.TheVariants.{Counted, Fetched, Cleared}
+use Rattle.calls.specs.declared.call.Answer.TheVariants.{Counted, Fetched}
 use Rattle.calls.specs.declared.call.CallFault.{CallFault}
 use Rattle.calls.specs.declared.call.Reason.TheVariants.{SmallField, SmallStore}
-use Rattle.calls.specs.Calls.{fits, lost, mend_sheet, node_meters}
+use Rattle.calls.specs.Calls.{lost, mend_sheet, node_meters}
 use Rattle.calls.specs.History.{Ask, set, put, fetch, lose, refresh, mend, Event, Step, Leads, ledger, Empty, Full, known, counts, clearings}
 
 -- the meters of all rows of the code's nodes

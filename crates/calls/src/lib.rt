@@ -1,4 +1,6 @@
 // The calls of an engine: their names, answers and faults, and what is promised of them over every history.
+#![tactic(auto)]
+
 ghost use Rattle.std.specs.Prelude.{◌≡◌};
 ghost use Rattle.calls.specs.Numbers.{fault_number};
 ghost use Rattle.calls.specs.Theorem.{EveryHistory, EveryCall};

@@ -1,4 +1,6 @@
 // Erasure codes behind one interface: what an engine asks of a code, and the laws that a code owes.
+#![tactic(auto)]
+
 ghost use Rattle.std.specs.Prelude.{◌≡◌, ℕ, ◌<◌, ◌≤◌, true};
 ghost use Rattle.sheet.specs.Places.{at as at_place, listed, places_of};
 ghost use Rattle.code.specs.Codes.{CodeMeaning, CodeLaws, Slotted, blanks};

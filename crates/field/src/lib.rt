@@ -1,4 +1,6 @@
 // Symbols: what a field is, and what it is to number its symbols.
+#![tactic(auto)]
+
 ghost use Rattle.std.specs.Prelude.{◌≡◌, ℕ, Option};
 ghost use Rattle.field.specs.Laws.{Operations, FieldLaws, Numbering};
 

@@ -1,18 +1,15 @@
 -- The worked figures, computed. Assumes nothing.
-use Rattle.std.proofs.Common.{◌≡◌, ℕ, ◌+◌, ◌-◌, ◌*◌, ◌<◌, ◌≤◌, cond, ltb, List, [], ◌∷◌, map, length, Some, None, sym, refl, ap, ◌∙◌, subst, arith}
-use Rattle.field.specs.Decimal.{decimal, symbol_of}
-use Rattle.field.specs.declared.decimal.Decimal.TheVariants.{Zero, One, Two, Three, Four, Five, Six, Seven, Eight, Nine, Ten}
+use Rattle.std.proofs.Common.{◌≡◌, ℕ, ◌+◌, ◌-◌, ◌*◌, ◌<◌, ◌≤◌, cond, ltb, [], ◌∷◌, length, sym, refl, ◌∙◌, subst, arith}
+use Rattle.field.specs.declared.decimal.Decimal.TheVariants.{One, Two, Three, Four, Five, Six, Seven, Eight, Nine, Ten}
 use Rattle.byte.specs.Polynomial.{multiply, times_x, remainder}
 use Rattle.byte.specs.Bytes.{byte, byte_product, byte_operations}
 use Rattle.sheet.specs.Places.{at, listed, with_place, distinct_from, distinct, places_of, sheet_of}
 use Rattle.array.specs.declared.parameters.Parameters.{Parameters}
 use Rattle.array.specs.declared.fault.ParameterFault.TheVariants.{ClassB, SmallField}
-use Rattle.array.specs.Layout.{steps, reach}
 use Rattle.array.specs.Checks.{declined, declined_over}
 use Rattle.array.specs.Each.{each}
-use Rattle.array.specs.Symbols.{sum_to, sum_but, row_symbol, past, array}
-use Rattle.array.specs.Sheet.{row_places, step_places, local_places, far_places, entries, offset_places, mend_entries, node_sheet}
-use Rattle.array.specs.Theorems.{sheet_size}
+use Rattle.array.specs.Symbols.{sum_to, row_symbol, past, array}
+use Rattle.array.specs.Sheet.{row_places, step_places, local_places, far_places, entries, mend_entries, node_sheet}
 use Rattle.array.proofs.Size.{sized, sized_rows}
 use Rattle.figures.specs.Figures.{Has, file_row, DataSheets, DeclinedWith, Figures}
 

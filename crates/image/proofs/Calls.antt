@@ -1,5 +1,5 @@
 -- What each call on a card image leaves.
-use Rattle.std.proofs.Common.{◌≡◌, ℕ, ◌+◌, ◌*◌, ◌<◌, ◌≤◌, cond, ◌&&◌, eqb, ltb, leb, List, length, is_ok, Some, None, Ok, Err, Option, sym, ap, ◌∙◌, arith}
+use Rattle.std.proofs.Common.{◌≡◌, ℕ, ◌+◌, ◌*◌, ◌<◌, ◌≤◌, cond, ◌&&◌, eqb, ltb, leb, List, length, is_ok, Some, Ok, Option, sym, ap, ◌∙◌, arith}
 use Rattle.store.specs.Meaning.{probed, read, written, cleared, refreshed, summed, total}
 use Rattle.store.specs.Beyond.{Beyond}
 use Rattle.store.proofs.Same.{answered_on}

@@ -1,10 +1,10 @@
 -- What a change of records leaves of what the image means.
-use Rattle.std.proofs.Common.{◌≡◌, ℕ, zero, suc, ◌+◌, ◌-◌, ◌*◌, ◌/◌, ◌%◌, ◌<◌, ◌≤◌, min, Bool, true, false, cond, ◌&&◌, eqb, ltb, leb, List, [], length, get_or, is_ok, Some, None, Ok, Err, Option, sym, refl, ap, ◌∙◌, arith}
+use Rattle.std.proofs.Common.{◌≡◌, ℕ, zero, suc, ◌+◌, ◌-◌, ◌*◌, ◌/◌, ◌%◌, ◌<◌, ◌≤◌, min, Bool, true, false, cond, ◌&&◌, eqb, ltb, leb, List, [], length, get_or, is_ok, Some, Ok, Option, sym, refl, ap, ◌∙◌, arith}
 use Rattle.std.proofs.lemmas.Bool.{lt-ltb, cond_both, cond-true, eqb-true}
 use Rattle.std.proofs.lemmas.Bool.Decides.{nat_tests}
-use Rattle.store.specs.Meaning.{Meaning, on, probed, read, written, refreshed, cleared, total, summed, blank}
+use Rattle.store.specs.Meaning.{probed, read, written, refreshed, cleared, total, summed, blank}
 use Rattle.store.specs.Beyond.{Beyond}
-use Rattle.store.specs.Laid.{laid, spot}
+use Rattle.store.specs.Laid.{spot}
 use Rattle.store.proofs.Rest.{beyond_each}
 use Rattle.store.proofs.Same.{probed_ok}
 use Rattle.store.proofs.Lay.{spot_below, laid_written, laid_read, laid_cleared, laid_refreshed, laid_blank, laid_total}

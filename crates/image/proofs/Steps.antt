@@ -1,5 +1,5 @@
 -- Records in a list of bytes.
-use Rattle.std.proofs.Common.{◌≡◌, ℕ, ◌+◌, ◌-◌, ◌*◌, ◌<◌, ◌≤◌, min, Bool, true, false, cond, ◌&&◌, eqb, ltb, leb, List, length, get_or, set, sym, refl, ap, ◌∙◌, ap₂, add-zero, arith}
+use Rattle.std.proofs.Common.{◌≡◌, ℕ, ◌+◌, ◌-◌, ◌*◌, ◌<◌, ◌≤◌, cond, ◌&&◌, eqb, ltb, leb, List, length, get_or, set, sym, ap, ◌∙◌, ap₂, add-zero, arith}
 use borrow.Rule.Slice.PartMut.{put_mid}
 use Rattle.std.specs.List.{between}
 use Rattle.std.proofs.lemmas.List.{get_or_past, get_or-set_same, get_or-set_other, places, length-set}
@@ -9,7 +9,7 @@ use Rattle.std.proofs.lemmas.Bool.Decides.{nat_tests}
 use Rattle.store.specs.Meaning.{total}
 use Rattle.store.proofs.Runs.{total_more, total_same, get_or_put_mid}
 use Rattle.image.specs.declared.record.Record.{Record}
-use Rattle.image.specs.Bytes.{four, wear, rewound, zeros}
+use Rattle.image.specs.Bytes.{four, wear, rewound}
 
 pub same_record : (x y : Record) → x.mark ≡ y.mark → x.high ≡ y.high → x.low ≡ y.low → x.meter ≡ y.meter → x ≡ y
 same_record x y p q r s = λ d. record { mark = p d; high = q d; low = r d; meter = s d }

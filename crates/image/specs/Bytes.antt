@@ -1,5 +1,5 @@
 -- What the bytes of a card image mean. Assumes nothing.
-use Rattle.std.specs.Prelude.{◌≡◌, ℕ, ◌+◌, ◌*◌, ◌<◌, ◌≤◌, min, cond, List, Some, None, Option, ◌==◌, slice_index}
+use Rattle.std.specs.Prelude.{◌≡◌, ℕ, ◌+◌, ◌*◌, ◌<◌, ◌≤◌, min, cond, List, None, Option, ◌==◌, slice_index}
 use Rattle.image.specs.declared.record.Record.{Record}
 use Rattle.store.specs.Meaning.{Meaning}
 use Rattle.store.specs.Laid.{laid}

@@ -1,4 +1,6 @@
 // The card image: a store in bytes that the caller lends, four a place.
+#![tactic(auto)]
+
 ghost use Rattle.std.specs.Prelude.{◌≡◌, ◌+◌, ◌*◌, ◌≤◌, true, length, is_ok, is_err, Some};
 ghost use Rattle.store.specs.Meaning.{blank as fresh, probed, placed, summed, read as reads, written, cleared, refreshed};
 ghost use Rattle.store.specs.Fit.{Checked};

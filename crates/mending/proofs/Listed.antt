@@ -1,17 +1,15 @@
 -- What the listing of a node has at an index, and the slots of places. Assumes nothing.
-use Rattle.std.proofs.Common.{◌≡◌, ℕ, ◌+◌, ◌-◌, ◌*◌, ◌/◌, ◌%◌, ◌<◌, ◌≤◌, Bool, true, false, cond, ◌&&◌, ltb, ◌⊎◌, List, map, length, get_or, sym, refl, ap, ◌∙◌, subst, ap₂, inl, inr, ⊎_elim, mod-lt, div-lt_iff_lt-mul, arith}
+use Rattle.std.proofs.Common.{◌≡◌, ℕ, ◌+◌, ◌-◌, ◌*◌, ◌/◌, ◌%◌, ◌<◌, ◌≤◌, ◌&&◌, ltb, ◌⊎◌, List, map, length, get_or, sym, ap, ◌∙◌, subst, ⊎_elim, mod-lt, div-lt_iff_lt-mul, arith}
 use native.Mathlib.Nat.{mod-add-div'}
 use Rattle.std.specs.List.{range_with_len}
 use Rattle.std.proofs.lemmas.List.{length-map}
 use Rattle.std.proofs.lemmas.List.FromFn.{length-map-range_with_len}
 use Rattle.std.proofs.lemmas.Bool.{cases_Bool, cond-false, and_parts, both_ways, le-ltb}
 use Rattle.sheet.specs.declared.place.Place.{Place}
-use Rattle.sheet.specs.declared.place.Entry.{Entry}
 use Rattle.sheet.specs.declared.place.Part.TheVariants.{First}
-use Rattle.sheet.specs.Places.{at, in_part}
+use Rattle.sheet.specs.Places.{at}
 use Rattle.array.specs.declared.parameters.Parameters.{Parameters}
 use Rattle.array.specs.Layout.{nodes}
-use Rattle.array.specs.Each.{each}
 use Rattle.array.specs.Sheet.{kept_node, offset_places, least_offset, mend_entries, slot}
 use Rattle.array.proofs.Kept.{offset_length}
 use Rattle.array.proofs.Restoring.{entries_parity}

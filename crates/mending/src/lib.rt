@@ -1,4 +1,6 @@
 // How the nodes of a code array are made from the data, and mended from the places of their read sheets.
+#![tactic(auto)]
+
 mod mend;
 mod node_sheet;
 mod symbols;

@@ -1,14 +1,13 @@
 -- The check of a listing, place by place.
-use Rattle.std.proofs.Common.{◌≡◌, ℕ, zero, suc, ◌+◌, ◌<◌, ◌≤◌, Bool, true, false, cond, ◌&&◌, eqb, ltb, ◌⊎◌, List, [], ◌∷◌, length, get_or, drop, Some, None, Ok, Err, Option, Result, sym, refl, ap, ◌∙◌, inl, inr, arith}
+use Rattle.std.proofs.Common.{◌≡◌, ℕ, zero, suc, ◌+◌, ◌<◌, true, ltb, List, [], ◌∷◌, length, get_or, drop, Ok, Err, Result, sym, refl, ap, ◌∙◌, inl, inr, arith}
 use Rattle.std.proofs.lemmas.List.{at_drop_more}
-use Rattle.std.proofs.lemmas.Bool.{cases_Bool, cond-true, cond-false, and_parts, ltb-true}
+use Rattle.std.proofs.lemmas.Bool.{cases_Bool, cond-false, and_parts, ltb-true}
 use Rattle.store.specs.Meaning.{Meaning, probed, judged, on, fault}
 use Rattle.store.specs.declared.fault.StoreFault.{StoreFault}
-use Rattle.store.specs.declared.fault.Cause.{Cause}
-use Rattle.store.specs.declared.fault.Cause.TheVariants.{OffStore, Blank, Worn}
+use Rattle.store.specs.declared.fault.Cause.TheVariants.{OffStore}
 use Rattle.sheet.specs.declared.place.Place.{Place}
 use Rattle.sheet.specs.declared.place.Entry.{Entry}
-use Rattle.sheet.specs.Places.{at, listed, places_of}
+use Rattle.sheet.specs.Places.{at, places_of}
 use Rattle.calls.specs.declared.call.CallName.{CallName}
 use Rattle.calls.specs.declared.call.SheetFault.{SheetFault}
 use Rattle.calls.specs.Faults.{sheet_fault, unnamed}

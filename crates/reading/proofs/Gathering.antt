@@ -1,12 +1,11 @@
 -- The loop that reads each place of a listing once, into its slot.
-use Rattle.std.proofs.Common.{◌≡◌, ℕ, zero, suc, ◌+◌, ◌-◌, ◌*◌, ◌^◌, ◌<◌, ◌≤◌, Bool, true, false, cond, ◌&&◌, ◌||◌, eqb, ltb, ◌≢◌, ◌⊎◌, List, [], ◌∷◌, ◌++◌, map, length, get_or, take, set, is_ok, Some, None, Ok, Err, Option, Result, sym, refl, ap, ◌∙◌, subst, ap₂, inl, inr, arith, get_or-set_other, get_or-set_same}
+use Rattle.std.proofs.Common.{◌≡◌, ℕ, zero, suc, ◌+◌, ◌-◌, ◌*◌, ◌^◌, ◌<◌, ◌≤◌, Bool, true, false, cond, ◌&&◌, ◌||◌, eqb, ltb, ◌≢◌, ◌⊎◌, List, [], ◌∷◌, ◌++◌, map, length, get_or, take, set, is_ok, Ok, sym, refl, ap, ◌∙◌, subst, ap₂, inl, inr, arith, get_or-set_other, get_or-set_same}
 use mathlib.Core.Path.{fun_ext}
 use lib.Arith.{digits_lt}
 use Rattle.std.proofs.lemmas.List.{length_push, length-set, get_or_past, take_all, get_or_read, length-map}
 use Rattle.std.proofs.lemmas.Bool.{cond-true, cond-false, cases_Bool, both_ways, eq-eqb, ne_eqb, eqb-true, and_parts, and_from, and_left, and_right, le-ltb, lt-ltb, cases_eq, cases_lt}
 use Rattle.store.specs.Meaning.{Meaning, probed, read}
 use Rattle.store.specs.Meaning as store
-use Rattle.store.specs.declared.fault.StoreFault.{StoreFault}
 use Rattle.sheet.specs.declared.place.Place.{Place}
 use Rattle.sheet.specs.declared.place.Entry.{Entry}
 use Rattle.sheet.specs.declared.place.Record.{Record}

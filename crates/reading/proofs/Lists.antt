@@ -1,11 +1,11 @@
 -- More on lists of places: fronts of a listing, and listings without repeats.
-use Rattle.std.proofs.Common.{◌≡◌, ℕ, ◌+◌, ◌<◌, ◌≤◌, Bool, true, false, cond, ◌||◌, List, [], ◌∷◌, ◌++◌, map, length, get_or, take, drop, sym, refl, ap, ◌∙◌, arith, take-append-drop}
+use Rattle.std.proofs.Common.{◌≡◌, ℕ, ◌+◌, ◌<◌, ◌≤◌, Bool, true, false, cond, ◌||◌, List, [], ◌∷◌, ◌++◌, length, get_or, take, drop, sym, refl, ap, ◌∙◌, arith, take-append-drop}
 use Rattle.std.proofs.lemmas.List.{take_more, length_push, length-drop, length-take-le, length-map, get_or-map}
 use Rattle.std.proofs.lemmas.Bool.{or_right, or_left}
 use Rattle.sheet.specs.declared.place.Place.{Place}
 use Rattle.sheet.specs.declared.place.Entry.{Entry}
 use Rattle.sheet.specs.Places.{same_place, listed, with_place, distinct_from, distinct, places_of}
-use Rattle.sheet.proofs.Lists.{same_place_refl, listed_append, listed_push, distinct_append, distinct_skip, distinct_keep, listed_distinct, listed_at}
+use Rattle.sheet.proofs.Lists.{same_place_refl, listed_append, listed_push, distinct_append, distinct_skip, listed_distinct, listed_at}
 
 pub listed_old : (xs : List Place) (q p : Place) → listed xs p ≡ true → listed (xs ++ (q ∷ [])) p ≡ true
 listed_old xs q p e = listed_push xs q p ∙ or_left (listed xs p) (same_place p q || false) e

@@ -1,4 +1,6 @@
 // Reading the places of a sheet: the check of each, a read of each once, and the tables that symbols are solved from.
+#![tactic(auto)]
+
 mod checks;
 mod data;
 mod memory;

@@ -1,4 +1,6 @@
 // Reads one row of decimal symbols from standard input, and writes how each symbol is rebuilt from the others.
+#![tactic(auto)]
+
 use rebuilding::transcript;
 use std::io;
 use std::io::{Read, Write};

@@ -5,6 +5,7 @@ use row::{
     RowFault, data_weights_into, numbered, rebuild, replaced, row_symbol, weigh, weight,
     weights_into,
 };
+use std::process::Abort;
 use std::test::*;
 
 #[test]
@@ -89,17 +90,17 @@ fn weighs(rt: HostRuntime) -> Result<(), Fail> {
 }
 
 // Checks what is written of an input.
-fn writes(rt: HostRuntime, input: &[u8], expected: &[u8]) -> Result<(), Fail> {
+fn writes(rt: &(impl Abort + AllocGlobal), input: &[u8], expected: &[u8]) -> Result<(), Fail> {
     let mut out = Vec::new(rt.alloc());
     transcript(input, &mut out)?;
-    assert!(out.as_slice() == expected);
+    assert!(rt; out.as_slice() == expected);
     Ok(())
 }
 
 #[test]
 fn a_row_of_three(rt: HostRuntime) -> Result<(), Fail> {
     writes(
-        rt,
+        &rt,
         b"5 9 X",
         b"row 5 9 X 8 3\nplace 0 read 1 2 3 gave 5\nplace 1 read 0 2 3 gave 9\nplace 2 read 0 1 3 gave X\n3 of 3 came back right\n",
     )
@@ -107,18 +108,18 @@ fn a_row_of_three(rt: HostRuntime) -> Result<(), Fail> {
 
 #[test]
 fn no_words(rt: HostRuntime) -> Result<(), Fail> {
-    writes(rt, b"\n", b"words: 0, and a row has 3 to 9\n")
+    writes(&rt, b"\n", b"words: 0, and a row has 3 to 9\n")
 }
 
 #[test]
 fn two_words(rt: HostRuntime) -> Result<(), Fail> {
-    writes(rt, b"3 1\n", b"words: 2, and a row has 3 to 9\n")
+    writes(&rt, b"3 1\n", b"words: 2, and a row has 3 to 9\n")
 }
 
 #[test]
 fn ten_words(rt: HostRuntime) -> Result<(), Fail> {
     writes(
-        rt,
+        &rt,
         b"3 1 4 1 5 9 2 6 5 3",
         b"words: 10, and a row has 3 to 9\n",
     )
@@ -127,7 +128,7 @@ fn ten_words(rt: HostRuntime) -> Result<(), Fail> {
 #[test]
 fn ten_as_a_number(rt: HostRuntime) -> Result<(), Fail> {
     writes(
-        rt,
+        &rt,
         b"3 10 4 1",
         b"word 2 at column 3: a symbol is one of 0 to 9 or X\n",
     )
@@ -136,7 +137,7 @@ fn ten_as_a_number(rt: HostRuntime) -> Result<(), Fail> {
 #[test]
 fn two_spaces(rt: HostRuntime) -> Result<(), Fail> {
     writes(
-        rt,
+        &rt,
         b"3  1 4",
         b"word 2 at column 3: a symbol is one of 0 to 9 or X\n",
     )
@@ -145,7 +146,7 @@ fn two_spaces(rt: HostRuntime) -> Result<(), Fail> {
 #[test]
 fn a_space_at_the_end(rt: HostRuntime) -> Result<(), Fail> {
     writes(
-        rt,
+        &rt,
         b"3 1 4 \n",
         b"word 4 at column 7: a symbol is one of 0 to 9 or X\n",
     )
@@ -153,5 +154,5 @@ fn a_space_at_the_end(rt: HostRuntime) -> Result<(), Fail> {
 
 #[test]
 fn no_text(rt: HostRuntime) -> Result<(), Fail> {
-    writes(rt, b"3 1 \xff 1", b"column 5: this byte is no text\n")
+    writes(&rt, b"3 1 \xff 1", b"column 5: this byte is no text\n")
 }

@@ -1,15 +1,14 @@
 -- The symbol that comes back is the one that was taken away. Assumes nothing.
-use Rattle.std.proofs.Common.{◌≡◌, ℕ, ◌+◌, ◌-◌, ◌<◌, ◌≤◌, Bool, true, false, cond, eqb, ltb, List, map, length, get_or, take, Ok, Err, Result, sym, refl, ap, ◌∙◌, subst, ⊎_elim, arith}
+use Rattle.std.proofs.Common.{◌≡◌, ℕ, ◌+◌, ◌-◌, ◌<◌, ◌≤◌, cond, eqb, ltb, List, map, length, get_or, take, Ok, Err, Result, sym, ap, ◌∙◌, subst, ⊎_elim, arith}
 use Rattle.std.specs.List.{range_with_len}
 use Rattle.std.proofs.lemmas.Bool.{eq-eqb, cond-true, cond-false, lt-ltb, le-ltb, cases_lt}
 use Rattle.std.proofs.lemmas.List.FromFn.{length-map-range_with_len, get_or-map-range_with_len, take-map-range_with_len}
-use Rattle.field.specs.Laws.{FieldLaws, Numbering}
 use Rattle.field.specs.Decimal.{number_of, symbol_of, decimal}
 use Rattle.field.specs.declared.decimal.Decimal.{Decimal}
 use Rattle.field.specs.declared.decimal.Decimal.TheVariants.{Zero}
 use Rattle.field.specs.Decimals.{decimal_laws, decimal_numbering}
 use Rattle.row.specs.Polynomial.{value}
-use Rattle.row.specs.RowRule.{stands, RowPolynomial, RowRule, row_symbol, Within, Different, Taken}
+use Rattle.row.specs.RowRule.{stands, RowRule, Within, Different, Taken}
 use Rattle.row.specs.Answers.{symbol_answer, AnyGiveAll}
 use Rattle.row.specs.declared.fault.RowFault.{RowFault}
 use Rattle.row.proofs.Rules.{rule}

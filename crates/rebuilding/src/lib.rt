@@ -1,4 +1,5 @@
 // Rebuilding each symbol of a row of decimal symbols, as text.
+#![tactic(auto)]
 
 mod report;
 

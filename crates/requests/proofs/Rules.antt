@@ -1,6 +1,6 @@
 -- From the words of a line and what they mean to what the line says. Assumes nothing.
-use Rattle.std.proofs.Common.{◌≡◌, ℕ, suc, ◌-◌, List, [], ◌∷◌, length, drop, Ok, Err, codes, Result, sym, refl, ap, ◌∙◌, subst, arith}
-use Rattle.text.specs.Words.{Placed, words, left, texts}
+use Rattle.std.proofs.Common.{◌≡◌, ℕ, suc, ◌-◌, List, ◌∷◌, length, drop, Ok, Err, codes, Result, sym, refl, ap, ◌∙◌, subst, arith}
+use Rattle.text.specs.Words.{left, texts}
 use Rattle.requests.specs.declared.request.Request.{Request}
 use Rattle.lines.specs.declared.line.LineFault.{LineFault}
 use Rattle.lines.specs.declared.line.SessionLine.{SessionLine}
@@ -8,7 +8,6 @@ use Rattle.lines.specs.declared.line.SessionLine.TheVariants.{Make, Set, Put, Fe
 use Rattle.lines.specs.Lines.{call, spoken, Whole, first_word, Parsed}
 use Rattle.requests.specs.Meaning.{WellFormed, named, symbol_words, Meaning}
 use Rattle.lines.specs.Names.{spelled, Fits}
-use Rattle.requests.specs.Phrases.{symbols}
 use Rattle.requests.specs.Reading.{Read}
 
 last_words : (s : SessionLine) → symbol_words s ≡ drop (length (spoken s) - length (symbol_words s)) (spoken s)

@@ -1,5 +1,5 @@
 -- The words that say a call. Assumes nothing.
-use Rattle.std.specs.Prelude.{◌≡◌, ℕ, ◌<◌, List, [], ◌∷◌, codes, decimal}
+use Rattle.std.specs.Prelude.{ℕ, ◌<◌, List, [], ◌∷◌, codes, decimal}
 use Rattle.text.specs.Words.{Placed, place, left, texts}
 use Rattle.requests.specs.declared.request.Request.{Request}
 use Rattle.requests.specs.declared.request.Request.TheVariants.{Make, Set, Put, Fetch, Lose, Refresh, Mend}

@@ -1,4 +1,6 @@
 // What session lines ask for, or the first rule that they break.
+#![tactic(auto)]
+
 ghost use Rattle.requests.specs.Reading.{Read};
 
 pub mod reading;

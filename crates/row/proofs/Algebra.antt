@@ -1,5 +1,5 @@
 -- What follows from the laws of a field. Assumes nothing.
-use Rattle.std.proofs.Common.{◌≡◌, sym, refl, ap, ◌∙◌, ap₂}
+use Rattle.std.proofs.Common.{◌≡◌, sym, ap, ◌∙◌, ap₂}
 use Rattle.field.specs.Laws.{Operations, FieldLaws}
 
 module _ {F : Type 0} {o : Operations F} (laws : FieldLaws o) where

@@ -1,11 +1,11 @@
 -- Lagrange's formula is a polynomial of degree below k that meets the k values, so it is every such polynomial's value.
 -- Assumes nothing.
-use Rattle.std.proofs.Common.{◌≡◌, ℕ, zero, suc, ◌+◌, ◌<◌, ◌≤◌, Bool, true, false, cond, eqb, ◌⊎◌, List, [], ◌∷◌, length, sym, refl, ap, ◌∙◌, subst, ap₂, inl, inr, ⊎_elim, add-one, arith}
+use Rattle.std.proofs.Common.{◌≡◌, ℕ, zero, suc, ◌+◌, ◌<◌, ◌≤◌, Bool, true, false, cond, eqb, List, [], ◌∷◌, length, sym, refl, ap, ◌∙◌, subst, ap₂, ⊎_elim, add-one, arith}
 use Rattle.std.proofs.lemmas.Bool.{eq-eqb, ne_eqb, cases_eq, cond-true, cond-false}
 use Rattle.field.specs.Laws.{Operations, FieldLaws}
 use Rattle.row.specs.Polynomial.{value}
 use Rattle.row.specs.Interpolation.{sum_below, product_below, factor, others, basis, interpolate, Apart, Meets}
-use Rattle.row.proofs.Algebra.{ring, sub_add, zero_sum, sum_zero, product_zero, zero_product, product_one, one_product, difference_unique, difference_zero, self_difference, product_apart, one_apart, distributes_right}
+use Rattle.row.proofs.Algebra.{ring, sub_add, zero_sum, sum_zero, product_zero, zero_product, product_one, difference_unique, difference_zero, self_difference, product_apart, one_apart, distributes_right}
 use Rattle.row.proofs.Polynomial.{zeros, value_zeros, plus, scale, length_plus, length_scale, value_plus, value_scale, unique}
 
 -- f is a polynomial of degree below k

@@ -1,5 +1,5 @@
 -- Symbols with different numbers differ.
-use Rattle.std.proofs.Common.{◌≡◌, ℕ, ◌<◌, Some, None, Option, sym, ap, ◌∙◌}
+use Rattle.std.proofs.Common.{◌≡◌, ℕ, ◌<◌, Option, sym, ap, ◌∙◌}
 use Rattle.field.specs.Laws.{Numbering}
 use Rattle.row.specs.Numbered.{or_else, numbered}
 

@@ -4,7 +4,7 @@ use Rattle.std.proofs.Common.{◌≡◌, ℕ, zero, suc, ◌<◌, ◌≤◌, Lis
 use Rattle.field.specs.Laws.{Operations, FieldLaws}
 use Rattle.row.specs.Polynomial.{value}
 use Rattle.row.specs.Interpolation.{Apart, Meets}
-use Rattle.row.proofs.Algebra.{ring, sub_add, zero_sum, product_zero, sum_zero, sum_comm, cancel_left, cancel_right, no_divisors, difference_zero, difference_unique}
+use Rattle.row.proofs.Algebra.{ring, sub_add, zero_sum, product_zero, sum_zero, cancel_left, cancel_right, no_divisors, difference_zero}
 
 -- p of degree below k, where p is the tail of c + x p: its quotient by x - a
 abbrev quotient : {F : Type 0} → Operations F → List F → F → List F

@@ -1,11 +1,10 @@
 -- The row rule's laws, for every numbered field. Assumes nothing.
-use Rattle.std.proofs.Common.{◌≡◌, ℕ, zero, suc, ◌<◌, ◌≤◌, Bool, true, false, cond, ◌||◌, eqb, ltb, leb, List, [], ◌∷◌, map, length, get_or, set, Ok, Option, Result, sym, refl, ap, ◌∙◌, subst, ⊎_elim, arith, length-set, get_or-set_other, get_or-set_same}
-use Rattle.std.specs.List.{range_with_len}
-use Rattle.std.proofs.lemmas.Bool.{eq-eqb, ne_eqb, lt-ltb, le-ltb, lt-leb, cases_eq, cases_lt, cond-true, cond-false, or_from}
+use Rattle.std.proofs.Common.{◌≡◌, ℕ, zero, suc, ◌<◌, ◌≤◌, false, cond, ◌||◌, eqb, ltb, leb, List, [], ◌∷◌, length, get_or, set, Ok, Option, Result, sym, refl, ap, ◌∙◌, subst, ⊎_elim, arith, length-set, get_or-set_other, get_or-set_same}
+use Rattle.std.proofs.lemmas.Bool.{eq-eqb, ne_eqb, lt-ltb, le-ltb, lt-leb, cases_eq, cond-true, cond-false, or_from}
 use Rattle.std.proofs.lemmas.List.FromFn.{length-map-range_with_len, get_or-map-range_with_len}
 use Rattle.field.specs.Laws.{Operations, FieldLaws, Numbering}
 use Rattle.row.specs.Polynomial.{value}
-use Rattle.row.specs.Interpolation.{Apart, basis, sum_below, interpolate}
+use Rattle.row.specs.Interpolation.{Apart, sum_below, interpolate}
 use Rattle.row.specs.RowRule.{stands, RowPolynomial, row_symbol, RowRule, Within, Different, Taken, points, rebuilt, weight_of, Replacing}
 use Rattle.row.specs.Weights.{weighed, data_weights, ServeData, listed_weight, listed_weights, ServeListed}
 use Rattle.row.specs.declared.fault.RowFault.{RowFault}

@@ -1,6 +1,6 @@
 -- The value at x of the one polynomial of degree below k that has given values at k points, by Lagrange's formula.
-use Rattle.std.specs.Prelude.{◌≡◌, ℕ, zero, suc, ◌<◌, cond, List, length, ◌==◌}
-use Rattle.field.specs.Laws.{Operations, FieldLaws}
+use Rattle.std.specs.Prelude.{◌≡◌, ℕ, zero, suc, ◌<◌, cond, List, ◌==◌}
+use Rattle.field.specs.Laws.{Operations}
 use Rattle.row.specs.Polynomial.{value}
 
 -- the sum and the product of f 0, .., f (n - 1)

@@ -1,4 +1,6 @@
 // The row rule: the symbols of a row, from k of them.
+#![tactic(auto)]
+
 ghost use Rattle.std.specs.Prelude.{◌≡◌, ◌≤◌, length, slice_index_or};
 ghost use Rattle.row.specs.Numbered.{numbered as numbered_of};
 ghost use Rattle.row.specs.Interpolation.{others};

@@ -1,4 +1,5 @@
 // A row of decimal symbols as a line of text.
+#![tactic(auto)]
 
 mod fault;
 mod input;

@@ -1,8 +1,8 @@
 -- Lines that end in a chunk, one after another. Assumes nothing.
-use Rattle.std.proofs.Common.{◌≡◌, ℕ, zero, suc, ◌+◌, ◌-◌, ◌<◌, ◌≤◌, min, List, [], ◌∷◌, ◌++◌, map, length, take, IfOk, Ok, Err, Result, sym, refl, ap, ◌∙◌, subst, ⊎_elim, append_assoc, append-nil, arith, MatchResult}
+use Rattle.std.proofs.Common.{◌≡◌, ℕ, zero, suc, ◌-◌, ◌<◌, ◌≤◌, min, List, [], ◌∷◌, ◌++◌, map, length, take, IfOk, Ok, Err, Result, sym, refl, ap, ◌∙◌, subst, ⊎_elim, append_assoc, append-nil, arith, MatchResult}
 use Rattle.std.proofs.lemmas.List.{take-take, take_all, length-take, length-append, map_push}
 use Rattle.std.proofs.lemmas.Bool.{cases_lt}
-use Rattle.text.specs.Lines.{ended, closed_lines, open_line}
+use Rattle.text.specs.Lines.{ended}
 use Rattle.text.specs.Parts.{Free, parts, front, final}
 use Rattle.text.proofs.Laws.{parts_after, parts_one}
 use Rattle.session.specs.Runs.{Runs, Adds}

@@ -1,5 +1,5 @@
 -- Lines answered one after another, joined. Assumes nothing.
-use Rattle.std.proofs.Common.{◌≡◌, ℕ, List, [], ◌∷◌, ◌++◌, map, sym, refl, ap, ◌∙◌, subst, append_assoc, append-nil}
+use Rattle.std.proofs.Common.{ℕ, List, [], ◌∷◌, ◌++◌, map, sym, refl, ap, ◌∙◌, subst, append_assoc, append-nil}
 use Rattle.session.specs.Runs.{Runs}
 
 module _ {S : Type 0} (answers : S → List ℕ → S → List ℕ → Type 0) where

@@ -1,5 +1,5 @@
 -- Input that comes in chunks. Assumes nothing.
-use Rattle.std.specs.Prelude.{◌≡◌, ℕ, List, [], ◌∷◌, ◌++◌, map, length, take}
+use Rattle.std.specs.Prelude.{◌≡◌, ℕ, List, [], ◌∷◌, ◌++◌, map, take}
 use Rattle.std.specs.List.{flat_map}
 use Rattle.text.specs.Lines.{ended, lines, closed_lines, open_line}
 use Rattle.session.specs.Runs.{Runs}

@@ -1,4 +1,6 @@
 // A session: which calls it admits, and its lines as they come, chunk by chunk.
+#![tactic(auto)]
+
 pub mod answerer;
 pub mod feed;
 pub mod held;

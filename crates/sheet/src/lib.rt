@@ -1,4 +1,6 @@
 // Places of an array, listings of places in their order, and tables of symbols by place.
+#![tactic(auto)]
+
 ghost use Rattle.std.specs.Prelude.{◌≡◌, ℕ, ◌<◌, List, length, slice_index_or};
 ghost use Rattle.sheet.specs.Parts.{part_number};
 ghost use Rattle.sheet.specs.declared.place.Entry.{Entry as Listed};

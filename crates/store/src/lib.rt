@@ -1,4 +1,6 @@
 // What a card store is: its meaning, its calls, its faults, and the check of a store's shape.
+#![tactic(auto)]
+
 ghost use Rattle.std.specs.Prelude.{◌≡◌, true, is_err};
 ghost use Rattle.store.specs.Meaning.{Meaning, Sound, «number_of», judged as judges, probed, metered, placed, summed, read as reads, written, refreshed, cleared};
 ghost use Rattle.store.specs.Fit.{Checked, unfit_number};

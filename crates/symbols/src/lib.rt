@@ -1,3 +1,5 @@
 // Symbols as words.
+#![tactic(auto)]
+
 pub mod notation;
 pub mod reading;

@@ -1,13 +1,13 @@
 -- The laws of parts, lines and words. Assumes nothing.
-use Rattle.std.proofs.Common.{◌≡◌, ℕ, zero, suc, ◌+◌, ◌<◌, Bool, true, false, cond, eqb, ◌⊎◌, List, [], ◌∷◌, ◌++◌, length, get_or, take, sym, refl, ap, ◌∙◌, subst, inl, inr, ⊎_elim, append_assoc, append-nil, arith}
+use Rattle.std.proofs.Common.{◌≡◌, ℕ, zero, suc, ◌+◌, ◌<◌, eqb, ◌⊎◌, List, [], ◌∷◌, ◌++◌, length, take, sym, refl, ap, ◌∙◌, subst, inl, inr, ⊎_elim, append_assoc, append-nil, arith}
 use Rattle.std.specs.List.{flat_map, AllByRecursion as All}
 use Rattle.std.proofs.ByRecursion.{All-push}
 use Rattle.std.proofs.lemmas.List.{append_cancel_right, length-append, length-map}
 use Rattle.std.proofs.lemmas.Bool.{cond_both, cond-true, cond-false, eqb-true, eqb-false, eq-eqb, ne_eqb}
-use Rattle.text.specs.Lines.{ended, lines}
-use Rattle.text.specs.Parts.{Lacks, Free, onto, parts, joined_by, final}
-use Rattle.text.specs.Words.{Placed, placed, words, texts, column_of}
-use Rattle.text.specs.Cutting.{closed, Lined, LineCut, Worded, WordCut}
+use Rattle.text.specs.Lines.{ended}
+use Rattle.text.specs.Parts.{Free, onto, parts, joined_by, final}
+use Rattle.text.specs.Words.{placed, words, texts, column_of}
+use Rattle.text.specs.Cutting.{closed, LineCut, Worded, WordCut}
 use Rattle.text.proofs.Cuts.{parts_some}
 
 joined_cons : (c : ℕ) (p : List ℕ) (ps : List (List ℕ)) → 0 < length ps → joined_by c (p ∷ ps) ≡ p ++ c ∷ joined_by c ps

@@ -3,7 +3,7 @@ use Rattle.std.specs.Prelude.{◌≡◌, ℕ, ◌+◌, ◌<◌, ◌⊎◌, List,
 use Rattle.std.specs.List.{flat_map, AllByRecursion as All}
 use Rattle.text.specs.Lines.{lines}
 use Rattle.text.specs.Parts.{Free, joined_by, final}
-use Rattle.text.specs.Words.{Placed, words, texts, column_of}
+use Rattle.text.specs.Words.{words, texts, column_of}
 
 -- lines, each closed by a line feed
 abbrev pub closed : List (List ℕ) → List ℕ

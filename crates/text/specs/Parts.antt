@@ -1,5 +1,5 @@
 -- Bytes parted at a separator. Assumes nothing.
-use Rattle.std.specs.Prelude.{◌≡◌, ℕ, ◌<◌, cond, List, [], ◌∷◌, ◌++◌, length, ◌==◌, ◌≢◌, slice_index}
+use Rattle.std.specs.Prelude.{ℕ, ◌<◌, cond, List, [], ◌∷◌, ◌++◌, length, ◌==◌, ◌≢◌, slice_index}
 
 -- none of the first n bytes is c
 abbrev pub Lacks : ℕ → List ℕ → ℕ → Type 0

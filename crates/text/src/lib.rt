@@ -1,4 +1,6 @@
 // Bytes parted at a separator: the lines of an input, the words of a line, and the numbers that words write.
+#![tactic(auto)]
+
 ghost use Rattle.std.specs.Prelude.{◌≡◌, ◌<◌, ◌≤◌, ◌∷◌, ◌++◌, length, MatchOption, slice_index};
 ghost use Rattle.text.specs.Parts.{Lacks, Free};
 

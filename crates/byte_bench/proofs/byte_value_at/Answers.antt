@@ -1,7 +1,5 @@
-use Rattle.std.proofs.Common.{◌≡◌, ℕ, suc, ◌+◌, length, sym, ap, ◌∙◌, ap₂, arith}
+use Rattle.std.proofs.Common.{◌≡◌, suc, ◌+◌, length, ap, ◌∙◌, ap₂, arith}
 use Rattle.std.proofs.lemmas.List.{get_or_read}
-use Rattle.field.specs.Laws.{Operations}
-use Rattle.byte.specs.declared.byte.Byte.{Byte}
 use Rattle.byte.specs.Bytes.{byte, byte_operations}
 use Rattle.byte_bench.specs.Horner.{value_of}
 use Rattle.byte_bench.proofs.byte_value_at.Goals as goal

@@ -1,6 +1,5 @@
-use Rattle.std.proofs.Common.{◌≡◌, ◌<◌, ◌≤◌, Bool, true, false, ◌||◌, eqb, leb, length, Ok, Err, Result, sym, ap, ◌∙◌, ap₂, arith}
+use Rattle.std.proofs.Common.{◌≡◌, ◌<◌, true, false, ◌||◌, eqb, leb, length, Ok, Err, sym, ap, ◌∙◌, arith}
 use Rattle.std.proofs.lemmas.Bool.{cond-true, cond-false, eq-eqb, ne_eqb, le-leb, lt-leb, or_from, or_left, or_right}
-use Rattle.row.specs.declared.fault.RowFault.{RowFault}
 use Rattle.row.specs.declared.fault.RowFault.TheVariants.{Uneven, NoSymbol, Repeated}
 use Rattle.row.specs.Answers.{beyond, repeated, rebuild_answer}
 use Rattle.row.proofs.Rules.{any_give_all}

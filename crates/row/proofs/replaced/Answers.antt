@@ -1,5 +1,4 @@
-use Rattle.std.proofs.Common.{◌≡◌, sym, ◌∙◌, subst}
-use Rattle.row.specs.RowRule.{Replacing}
+use Rattle.std.proofs.Common.{◌≡◌, ◌∙◌}
 use Rattle.row.proofs.Rules.{replacing}
 use Rattle.row.proofs.replaced.Goals as goal
 

@@ -1,4 +1,4 @@
-use Rattle.std.proofs.Common.{[], ◌∷◌, ◌++◌, vec_items, decimal}
+use Rattle.std.proofs.Common.{[], ◌∷◌, vec_items, decimal}
 use Rattle.answers.proofs.Chains.{after}
 use Rattle.answers.proofs.writing.write_place.Goals as goal
 

@@ -1,4 +1,4 @@
-use Rattle.std.proofs.Common.{◌≡◌, ℕ, sym, ap, ◌∙◌, ap₂, arith}
+use Rattle.std.proofs.Common.{◌≡◌, ℕ, ◌∙◌, ap₂, arith}
 use Rattle.row.specs.Numbered.{numbered}
 use Rattle.row.specs.Interpolation.{sum_below, basis}
 use Rattle.row.proofs.Lagrange.{sum_more}

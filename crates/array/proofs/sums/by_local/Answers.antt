@@ -1,4 +1,4 @@
-use Rattle.std.proofs.Common.{◌≡◌, ℕ, ◌+◌, ◌-◌, sym, refl, ap, ◌∙◌, arith}
+use Rattle.std.proofs.Common.{◌≡◌, ℕ, ◌+◌, ◌-◌, ap, ◌∙◌, arith}
 use Rattle.array.specs.Layout.{wrap, reach}
 use Rattle.array.specs.Symbols.{sum_to, sum_but}
 use Rattle.array.specs.Recovered.{by_local_lem}

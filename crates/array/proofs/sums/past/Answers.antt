@@ -1,4 +1,4 @@
-use Rattle.std.proofs.Common.{◌≡◌, ℕ, ◌+◌, ◌-◌, sym, refl, ap, ◌∙◌, arith}
+use Rattle.std.proofs.Common.{◌≡◌, ℕ, ◌+◌, ◌-◌, ap, ◌∙◌, arith}
 use Rattle.array.specs.Layout.{wrap}
 use Rattle.array.specs.Symbols.{sum_to, past}
 use Rattle.array.proofs.Turns.{sum_to_more}

@@ -1,4 +1,4 @@
-use Rattle.std.proofs.Common.{◌≡◌, ℕ, sym, ap, ◌∙◌, arith}
+use Rattle.std.proofs.Common.{◌≡◌, ℕ, ap, ◌∙◌, arith}
 use Rattle.row.specs.Numbered.{numbered}
 use Rattle.row.specs.Interpolation.{others}
 use Rattle.row.proofs.Lagrange.{others_skip, others_more}

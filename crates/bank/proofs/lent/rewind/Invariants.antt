@@ -1,4 +1,4 @@
-use Rattle.std.proofs.Common.{◌≡◌, ℕ, ◌<◌, cond, ltb}
+use Rattle.std.proofs.Common.{◌≡◌, ℕ, cond, ltb}
 use Rattle.bank.specs.Cells.{cell}
 use Rattle.bank.proofs.lent.rewind.Given as goal
 

@@ -1,4 +1,4 @@
-use Rattle.std.proofs.Common.{◌≡◌, ℕ, ◌-◌, ◌<◌, sym, refl, ap, ◌∙◌, subst, arith}
+use Rattle.std.proofs.Common.{◌<◌, sym, refl, ap, ◌∙◌, arith}
 use Rattle.byte.specs.Bytes.{byte_product, byte_inverse}
 use Rattle.byte.specs.Products.{product_inverse, inverse_zero, inverse_power}
 use Rattle.byte.proofs.arithmetic.inverse.Goals as goal

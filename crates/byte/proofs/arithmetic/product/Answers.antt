@@ -1,4 +1,4 @@
-use Rattle.std.proofs.Common.{◌≡◌, ℕ, ◌<◌, sym, ap, ◌∙◌, subst, ⊎_elim, arith}
+use Rattle.std.proofs.Common.{◌≡◌, sym, ◌∙◌, subst, ⊎_elim, arith}
 use Rattle.byte.specs.Polynomial.{multiply, TheRemainder}
 use Rattle.byte.specs.Bytes.{byte_product}
 use Rattle.byte.specs.Remainder.{the_remainder}

@@ -1,7 +1,6 @@
-use Rattle.std.proofs.Common.{◌≡◌, ℕ, ◌+◌, ◌-◌, ◌<◌, ◌≤◌, sym, refl, ap, ◌∙◌, ap₂, arith}
+use Rattle.std.proofs.Common.{ap, ◌∙◌, ap₂, arith}
 use Rattle.row.specs.Numbered.{numbered}
-use Rattle.array.specs.Symbols.{past}
-use Rattle.array.specs.Recovered.{recovered, around}
+use Rattle.array.specs.Recovered.{around}
 use Rattle.array.proofs.Ways.{way_own, way_piggyback, way_step, way_row, way_local}
 use Rattle.mending.proofs.Weighed.{weighed_around}
 use Rattle.mending.proofs.symbols.data_symbol.Goals as goal

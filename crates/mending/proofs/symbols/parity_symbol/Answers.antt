@@ -1,8 +1,6 @@
-use Rattle.std.proofs.Common.{◌≡◌, ℕ, ◌+◌, sym, ap, ◌∙◌, ap₂, arith}
+use Rattle.std.proofs.Common.{sym, ap, ◌∙◌, ap₂, arith}
 use Rattle.row.specs.Numbered.{numbered}
 use Rattle.row.proofs.Numbers.{numbered_apart}
-use Rattle.array.specs.Layout.{wrap}
-use Rattle.array.specs.Symbols.{row_symbol}
 use Rattle.array.proofs.Recovery.{array_plain, around_data}
 use Rattle.array.proofs.Restoring.{coded_piggyback, coded_local}
 use Rattle.mending.proofs.Weighed.{weighed_around}

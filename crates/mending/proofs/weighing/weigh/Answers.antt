@@ -1,5 +1,4 @@
-use Rattle.std.proofs.Common.{◌≡◌, sym, refl, ap, ◌∙◌, ap₂, arith}
-use Rattle.array.specs.Layout.{skip}
+use Rattle.std.proofs.Common.{◌≡◌, sym, ap, ◌∙◌, ap₂, arith}
 use Rattle.row.specs.Numbered.{numbered}
 use Rattle.mending.specs.Weights.{weighed}
 use Rattle.mending.proofs.Weighed.{weighed_none, weighed_more}

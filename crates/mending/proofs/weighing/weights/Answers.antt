@@ -1,4 +1,4 @@
-use Rattle.std.proofs.Common.{◌≡◌, ℕ, refl, ap, ◌∙◌, arith, length-set}
+use Rattle.std.proofs.Common.{ℕ, refl, ap, ◌∙◌, arith, length-set}
 use Rattle.row.specs.Numbered.{numbered}
 use Rattle.row.proofs.Numbers.{numbered_number}
 use Rattle.row.specs.Interpolation.{basis}

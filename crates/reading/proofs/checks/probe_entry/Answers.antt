@@ -1,4 +1,4 @@
-use Rattle.std.proofs.Common.{◌≡◌, Ok, Err, sym, ap, ◌∙◌}
+use Rattle.std.proofs.Common.{Err, ap, ◌∙◌}
 use Rattle.reading.proofs.Checking.{one_ok, one_err}
 use Rattle.reading.proofs.checks.probe_entry.Goals as goal
 

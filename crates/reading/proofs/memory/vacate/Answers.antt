@@ -1,4 +1,4 @@
-use Rattle.std.proofs.Common.{◌≡◌, sym, ap, ◌∙◌, subst}
+use Rattle.std.proofs.Common.{sym, ap, subst}
 use Rattle.reading.specs.Tables.{Vacated, vacant_record}
 use Rattle.reading.proofs.Gathering.{spread_vacated}
 use Rattle.reading.proofs.memory.vacate.Goals as goal

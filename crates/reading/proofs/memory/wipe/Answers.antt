@@ -1,4 +1,4 @@
-use Rattle.std.proofs.Common.{◌≡◌, sym, ap, ◌∙◌}
+use Rattle.std.proofs.Common.{ap, ◌∙◌}
 use Rattle.calls.specs.Reading.{wiped, blank_record}
 use Rattle.reading.specs.Tables.{spread_over}
 use Rattle.reading.proofs.memory.wipe.Goals as goal

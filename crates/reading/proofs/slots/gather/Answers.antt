@@ -1,4 +1,4 @@
-use Rattle.std.proofs.Common.{◌≡◌, sym, subst}
+use Rattle.std.proofs.Common.{sym, subst}
 use Rattle.code.specs.Codes.{Slotted}
 use Rattle.reading.proofs.slots.gather.Goals as goal
 

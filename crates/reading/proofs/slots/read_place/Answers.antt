@@ -1,4 +1,4 @@
-use Rattle.std.proofs.Common.{◌≡◌, sym, ap, ◌∙◌}
+use Rattle.std.proofs.Common.{sym, ◌∙◌}
 use Rattle.store.specs.Meaning.{probed}
 use Rattle.reading.proofs.Checking.{probed_symbol, ok_not_err}
 use Rattle.reading.proofs.Gathering.{read_raised}

@@ -1,4 +1,3 @@
-use Rattle.std.proofs.Common.{◌≡◌, sym, ap, ◌∙◌}
 use Rattle.calls.specs.Reading.{blank_record}
 use Rattle.reading.proofs.Gathering.{keeps_row, keeps_no_row}
 use Rattle.reading.proofs.tables.keeps.Goals as goal

@@ -1,9 +1,7 @@
-use Rattle.std.proofs.Common.{◌≡◌, ℕ, ◌+◌, ◌<◌, length, get_or, set, sym, ap, ◌∙◌, subst, arith}
+use Rattle.std.proofs.Common.{◌≡◌, ℕ, ◌+◌, ◌<◌, length, get_or, set, sym, subst, arith}
 use Rattle.std.proofs.lemmas.List.Edits.{fill_by_more}
 use Rattle.std.proofs.lemmas.List.FromFn.{fill_by_all}
-use Rattle.field.specs.declared.decimal.Decimal.{Decimal}
-use Rattle.field.specs.declared.decimal.Decimal.TheVariants.{Zero}
-use Rattle.rebuilding.specs.Report.{skip, known}
+use Rattle.rebuilding.specs.Report.{skip}
 use Rattle.rebuilding.proofs.report.numbers_into.Goals as goal
 
 pub loop-i-preserved : goal.loop-i-preserved

@@ -1,6 +1,5 @@
 use Rattle.std.proofs.Common.{◌≡◌, ℕ, ◌<◌, get_or}
-use Rattle.field.specs.declared.decimal.Decimal.TheVariants.{Zero}
-use Rattle.rebuilding.specs.Report.{skip, known}
+use Rattle.rebuilding.specs.Report.{skip}
 use Rattle.rebuilding.proofs.report.numbers_into.Given as goal
 
 abbrev pub invariant-loop-i : goal.invariant-loop-i

@@ -1,4 +1,4 @@
-use Rattle.std.proofs.Common.{◌≡◌, [], ◌∷◌, ◌++◌, vec_items, codes, decimal, sym, refl, ap, ◌∙◌, ap₂}
+use Rattle.std.proofs.Common.{[], ◌∷◌, ◌++◌, vec_items, codes, decimal, sym, ap, ◌∙◌}
 use Rattle.rebuilding.specs.Report.{fault_line}
 use Rattle.rebuilding.proofs.Writing.{after}
 use Rattle.rebuilding.proofs.report.push_fault.Goals as goal

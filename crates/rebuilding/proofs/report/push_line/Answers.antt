@@ -1,4 +1,4 @@
-use Rattle.std.proofs.Common.{◌≡◌, [], ◌∷◌, ◌++◌, vec_items, sym, refl, ap, ◌∙◌, ap₂}
+use Rattle.std.proofs.Common.{◌++◌, vec_items, ap, ◌∙◌}
 use Rattle.row_text.specs.Input.{symbol_at}
 use Rattle.rebuilding.specs.Report.{report}
 use Rattle.rebuilding.proofs.Regaining.{front}

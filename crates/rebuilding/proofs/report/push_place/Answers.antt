@@ -1,4 +1,4 @@
-use Rattle.std.proofs.Common.{◌≡◌, [], ◌∷◌, ◌++◌, length, get_or, vec_items, sym, refl, ap, ◌∙◌, ap₂}
+use Rattle.std.proofs.Common.{◌++◌, length, vec_items, ◌∙◌, ap₂}
 use Rattle.rebuilding.specs.Report.{skip, place_line}
 use Rattle.rebuilding.proofs.Regaining.{front}
 use Rattle.rebuilding.proofs.report.push_place.Goals as goal

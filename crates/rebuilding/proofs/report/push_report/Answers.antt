@@ -1,4 +1,4 @@
-use Rattle.std.proofs.Common.{◌≡◌, ℕ, [], ◌∷◌, ◌++◌, length, get_or, vec_items, sym, refl, ap, ◌∙◌, ap₂, arith}
+use Rattle.std.proofs.Common.{◌≡◌, ◌++◌, length, get_or, vec_items, ◌∙◌, ap₂, arith}
 use Rattle.field.specs.declared.decimal.Decimal.TheVariants.{Zero}
 use Rattle.rebuilding.specs.Report.{row_line, place_line, read_places, place_lines, total_line, report}
 use Rattle.rebuilding.proofs.Writing.{after, numbered_more}

@@ -1,4 +1,4 @@
-use Rattle.std.proofs.Common.{◌≡◌, [], ◌∷◌, ◌++◌, vec_items, codes, sym, refl, ap, ◌∙◌, ap₂}
+use Rattle.std.proofs.Common.{[], ◌∷◌, ◌++◌, vec_items, codes, ◌∙◌, ap₂}
 use Rattle.std.specs.List.{flat_map}
 use Rattle.rebuilding.specs.Report.{spaced, row_line}
 use Rattle.rebuilding.proofs.Writing.{after}

@@ -1,4 +1,4 @@
-use Rattle.std.proofs.Common.{◌≡◌, [], ◌∷◌, ◌++◌, vec_items, sym, refl, ap, ◌∙◌, ap₂}
+use Rattle.std.proofs.Common.{[], ◌∷◌, ◌++◌, vec_items, ap, ◌∙◌}
 use Rattle.rebuilding.proofs.Writing.{after}
 use Rattle.rebuilding.proofs.report.push_spaced.Goals as goal
 

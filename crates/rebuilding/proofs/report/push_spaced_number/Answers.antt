@@ -1,4 +1,4 @@
-use Rattle.std.proofs.Common.{◌≡◌, [], ◌∷◌, ◌++◌, vec_items, decimal, sym, refl, ap, ◌∙◌, ap₂}
+use Rattle.std.proofs.Common.{[], ◌∷◌, vec_items, decimal}
 use Rattle.rebuilding.proofs.Writing.{after}
 use Rattle.rebuilding.proofs.report.push_spaced_number.Goals as goal
 

@@ -1,4 +1,4 @@
-use Rattle.std.proofs.Common.{◌≡◌, get_or, Ok}
+use Rattle.std.proofs.Common.{get_or}
 use Rattle.rebuilding.proofs.Regaining.{from_ok, from_err, regains}
 use Rattle.field.specs.declared.decimal.Decimal.TheVariants.{Zero}
 use Rattle.rebuilding.proofs.report.regained.Goals as goal

@@ -1,4 +1,4 @@
-use Rattle.std.proofs.Common.{◌≡◌, [], ◌∷◌, ◌++◌, vec_items, sym, refl, ap, ◌∙◌, ap₂}
+use Rattle.std.proofs.Common.{◌++◌, vec_items, sym, ap, ◌∙◌}
 use Rattle.row_text.proofs.Reading.{row_most}
 use Rattle.rebuilding.proofs.Answering.{transcript_ok, transcript_err}
 use Rattle.rebuilding.proofs.report.transcript.Goals as goal

@@ -1,4 +1,4 @@
-use Rattle.std.proofs.Common.{◌≡◌, ◌*◌, ◌≤◌, length, sym, ap, arith}
+use Rattle.std.proofs.Common.{arith}
 use Rattle.row_text.proofs.Reading.{no_symbol_past}
 use Rattle.row_text.proofs.input.symbol_on.Goals as goal
 

@@ -1,4 +1,4 @@
-use Rattle.std.proofs.Common.{subst, inl, inr, arith, rules}
+use Rattle.std.proofs.Common.{inl, inr, arith, rules}
 use Rattle.std.proofs.lemmas.List.{take_all}
 use Rattle.text.proofs.Spelling.{small, one_more, no_digit}
 use Rattle.text.proofs.numbers.digits.Goals as goal

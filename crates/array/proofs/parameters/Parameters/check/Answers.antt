@@ -1,4 +1,4 @@
-use Rattle.std.proofs.Common.{◌≡◌, refl}
+use Rattle.std.proofs.Common.{refl}
 use Rattle.array.proofs.Checks.{bad_data, bad_class_a, bad_piggybacks, bad_class_b, accepted}
 use Rattle.array.proofs.parameters.Parameters.check.Goals as goal
 

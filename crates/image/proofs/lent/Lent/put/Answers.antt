@@ -1,4 +1,4 @@
-use Rattle.std.proofs.Common.{refl, arith}
+use Rattle.std.proofs.Common.{refl}
 use Rattle.std.proofs.lemmas.List.{length-set}
 use Rattle.image.proofs.Steps.{put_four}
 use Rattle.image.proofs.lent.Lent.put.Goals as goal

@@ -1,8 +1,5 @@
-use Rattle.std.proofs.Common.{◌≡◌, ◌+◌, ◌-◌, ◌*◌, cond, ◌&&◌, ltb, leb, refl, ap, ◌∙◌, arith}
-use Rattle.std.proofs.lemmas.Bool.Decides.{nat_tests}
-use Rattle.image.specs.declared.record.Record.{Record}
-use Rattle.image.specs.Bytes.{four, zeros}
-use Rattle.image.proofs.Steps.{part_four, length_part, rewound_part}
+use Rattle.std.proofs.Common.{◌+◌, ◌*◌, refl, arith}
+use Rattle.image.proofs.Steps.{length_part, rewound_part}
 use Rattle.image.proofs.lent.Lent.refresh.Goals as goal
 
 pub returns : goal.returns

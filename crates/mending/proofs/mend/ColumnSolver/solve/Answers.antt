@@ -1,4 +1,4 @@
-use Rattle.std.proofs.Common.{◌≡◌, sym, ◌∙◌}
+use Rattle.std.proofs.Common.{sym, ◌∙◌}
 use Rattle.row.specs.Numbered.{numbered}
 use Rattle.array.proofs.Recovery.{array_data}
 use Rattle.mending.proofs.mend.ColumnSolver.solve.Goals as goal

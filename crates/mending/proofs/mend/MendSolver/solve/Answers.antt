@@ -1,4 +1,4 @@
-use Rattle.std.proofs.Common.{◌≡◌, ◌∙◌}
+use Rattle.std.proofs.Common.{◌∙◌}
 use Rattle.row.specs.Numbered.{numbered}
 use Rattle.array.proofs.Restoring.{restored_data, restored_parity}
 use Rattle.mending.proofs.mend.MendSolver.solve.Goals as goal

@@ -1,4 +1,3 @@
-use Rattle.std.proofs.Common.{◌≡◌, ◌+◌, ◌-◌, ◌*◌, ap, ◌∙◌, ap₂}
 use Rattle.array.proofs.Indexed.{entries_length}
 use Rattle.mending.proofs.node_sheet.NodeSheet.data_len.Goals as goal
 

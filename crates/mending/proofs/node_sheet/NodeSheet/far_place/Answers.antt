@@ -1,7 +1,6 @@
-use Rattle.std.proofs.Common.{◌≡◌, ℕ, ◌+◌, ◌-◌, ◌<◌, ◌≤◌, eqb, get_or, sym, refl, ap, ◌∙◌, subst, ap₂, arith}
+use Rattle.std.proofs.Common.{◌≡◌, ℕ, ◌+◌, ◌≤◌, eqb, get_or, sym, ap, ◌∙◌, subst, ap₂, arith}
 use Rattle.std.proofs.lemmas.Bool.{cond-true, cond-false, eq-eqb, ne_eqb}
 use Rattle.array.specs.declared.parameters.Parameters.{Parameters}
-use Rattle.sheet.specs.declared.place.Place.{Place}
 use Rattle.array.specs.Layout.{wrap, reach, steps, step_node}
 use Rattle.sheet.specs.Places.{at}
 use Rattle.array.specs.Sheet.{far_places, far_width}

@@ -1,6 +1,6 @@
-use Rattle.std.proofs.Common.{◌≡◌, ℕ, ◌-◌, ◌*◌, ◌/◌, ◌%◌, ◌<◌, get_or, sym, refl, ap, ◌∙◌, subst, arith}
+use Rattle.std.proofs.Common.{◌-◌, ◌*◌, ◌/◌, ◌<◌, get_or, sym, refl, ap, ◌∙◌, subst, arith}
 use Rattle.sheet.specs.Places.{at}
-use Rattle.array.specs.Sheet.{least_offset, offset_places, kept_node}
+use Rattle.array.specs.Sheet.{offset_places}
 use Rattle.mending.proofs.Listed.{row_within, node_within, place_read}
 use Rattle.mending.proofs.node_sheet.NodeSheet.parity_place.Goals as goal
 

@@ -1,4 +1,4 @@
-use Rattle.std.proofs.Common.{◌≡◌, ◌<◌, length, get_or, sym, ap, ◌∙◌, subst, arith}
+use Rattle.std.proofs.Common.{◌<◌, length, get_or, sym, ap, ◌∙◌, subst}
 use Rattle.array.proofs.Restoring.{entries_data}
 use Rattle.mending.proofs.Listed.{parity_length, parity_read}
 use Rattle.mending.proofs.node_sheet.NodeSheetListing.at.Goals as goal

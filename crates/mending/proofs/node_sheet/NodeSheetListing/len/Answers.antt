@@ -1,4 +1,4 @@
-use Rattle.std.proofs.Common.{◌≡◌, ◌-◌, ◌*◌, length, sym, ap, ◌∙◌}
+use Rattle.std.proofs.Common.{◌-◌, ◌*◌, length, sym, ap, ◌∙◌}
 use Rattle.array.proofs.Restoring.{entries_data}
 use Rattle.mending.proofs.Listed.{parity_length}
 use Rattle.mending.proofs.node_sheet.NodeSheetListing.len.Goals as goal

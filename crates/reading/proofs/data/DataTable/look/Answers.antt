@@ -1,4 +1,4 @@
-use Rattle.std.proofs.Common.{◌≡◌, ◌+◌, ◌*◌, ◌<◌, ◌≤◌, ◌⊎◌, length, sym, ap, ◌∙◌, inl, inr, arith, rules}
+use Rattle.std.proofs.Common.{◌+◌, ◌*◌, ◌<◌, ◌≤◌, ◌⊎◌, length, sym, ◌∙◌, inl, inr, arith, rules}
 use Rattle.reading.proofs.Gathering.{data_off, data_on, data_within}
 use Rattle.reading.proofs.data.DataTable.look.Goals as goal
 use Rattle.reading.proofs.data.DataTable.look.Goals.{then-row-self-via-then-row-self, then-row-self-via-else-row-self+then-node-self}

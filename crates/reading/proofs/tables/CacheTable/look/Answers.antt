@@ -1,4 +1,4 @@
-use Rattle.std.proofs.Common.{◌≡◌, sym, ap, ◌∙◌, arith}
+use Rattle.std.proofs.Common.{sym, ap, ◌∙◌, arith}
 use Rattle.reading.proofs.Gathering.{look_past, look_has, look_not}
 use Rattle.reading.proofs.tables.CacheTable.look.Goals as goal
 

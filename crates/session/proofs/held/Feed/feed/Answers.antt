@@ -1,5 +1,5 @@
 use Rattle.std.proofs.Common.{vec_items, ◌∙◌}
-use Rattle.session.proofs.Feeds.{still, start, turn, stopped, shorter}
+use Rattle.session.proofs.Feeds.{still, turn, stopped, shorter}
 use Rattle.session.proofs.held.Feed.feed.Goals as goal
 
 pub loop-front-smaller : goal.loop-front-smaller

@@ -1,4 +1,4 @@
-use Rattle.std.proofs.Common.{◌≡◌, decimal, sym, ap, ◌∙◌, arith}
+use Rattle.std.proofs.Common.{decimal, sym, ap, ◌∙◌, arith}
 use Rattle.std.proofs.lemmas.Fmt.{decimal_injective}
 use Rattle.byte.specs.Laws.{byte_value}
 use Rattle.symbols.specs.Words.{byte_word}

@@ -1,6 +1,5 @@
-use Rattle.std.proofs.Common.{◌≡◌, ◌<◌, length, sym, ap, ◌∙◌, subst, arith}
+use Rattle.std.proofs.Common.{◌<◌, length, sym, ◌∙◌, arith}
 use Rattle.std.proofs.lemmas.Bool.{eqb-true, eqb-false}
-use Rattle.text.specs.Lines.{lines, todo}
 use Rattle.text.proofs.Cuts.{no_line, line_cut, line_last}
 use Rattle.text.proofs.lines.Lines.next_line.Goals as goal
 use Rattle.text.proofs.lines.Lines.next_line.Goals.{then-len-rest, else-len-rest}
