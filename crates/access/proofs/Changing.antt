@@ -1,5 +1,5 @@
 -- How the data, the row rule and the sums past the diagonal change where one data symbol is replaced. Assumes nothing.
-use Rattle.std.proofs.Common.{◌≡◌, ℕ, ◌+◌, ◌-◌, ◌<◌, ◌≤◌, cond, ◌&&◌, eqb, ◌⊎◌, sym, refl, ap, ◌∙◌, subst, ap₂, inl, inr, ⊎_elim, arith}
+use Rattle.std.proofs.Common.{◌≡◌, ℕ, ◌+◌, ◌-◌, ◌<◌, ◌≤◌, cond, ◌&&◌, eqb, sym, refl, ap, ◌∙◌, subst, ap₂, ⊎_elim}
 use Rattle.std.proofs.lemmas.Bool.{cases_eq, cond-true, cond-false, and_from, and_left, and_right, eq-eqb, ne_eqb}
 use Rattle.field.specs.Laws.{Operations, FieldLaws}
 use Rattle.row.specs.Interpolation.{basis}
@@ -8,7 +8,7 @@ use Rattle.row.proofs.Lagrange.{sum_as, change}
 use Rattle.code.specs.Codes.{replaced}
 use Rattle.array.specs.declared.parameters.Parameters.{Parameters}
 use Rattle.array.specs.Layout.{wrap}
-use Rattle.array.specs.Symbols.{sum_to, sum_but, row_symbol, past}
+use Rattle.array.specs.Symbols.{sum_but, row_symbol, past}
 use Rattle.array.proofs.Recovery.{sum_to_as, sum_but_as, sum_to_but}
 
 module _ {F : Type 0} {o : Operations F} (laws : FieldLaws o) (symbol : ℕ → F) (p : Parameters) (d : ℕ → ℕ → F) (i j : ℕ) (v : F) where

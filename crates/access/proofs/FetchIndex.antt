@@ -1,6 +1,5 @@
 -- What the listing of a fetch has at an index, way by way. Assumes nothing.
-use Rattle.std.proofs.Common.{◌≡◌, ℕ, zero, suc, ◌+◌, ◌-◌, ◌<◌, ◌≤◌, cond, eqb, leb, ◌⊎◌, List, [], ◌∷◌, map, length, get_or, sym, refl, ap, ◌∙◌, subst, inl, inr, ⊎_elim, arith}
-use Rattle.std.specs.List.{range_with_len}
+use Rattle.std.proofs.Common.{◌≡◌, ℕ, zero, suc, ◌+◌, ◌-◌, ◌<◌, ◌≤◌, eqb, leb, length, get_or, sym, refl, ap, ◌∙◌, subst, arith}
 use Rattle.std.proofs.lemmas.Bool.{cond-true, cond-false, eq-eqb, ne_eqb, le-leb, lt-leb}
 use Rattle.field.specs.Laws.{Operations}
 use Rattle.sheet.specs.declared.place.Place.{Place}
@@ -13,7 +12,7 @@ use Rattle.array.proofs.Indexed.{At, at_counted, row_length}
 use Rattle.access.specs.declared.fetch.Way.{Way}
 use Rattle.access.specs.declared.fetch.Way.TheVariants.{OwnRow, OwnStep, LastStep}
 use Rattle.access.specs.Fetch.{way_of, step_reads, reads, solved_by, fetch_places, fetch_entries, fetch_symbol}
-use Rattle.access.proofs.Offsets.{by_way, x_below}
+use Rattle.access.proofs.Offsets.{by_way}
 use Rattle.access.proofs.Reading.{step_size, last_size}
 use Rattle.access.proofs.Reached.{length_part}
 

@@ -1,6 +1,5 @@
 -- What the listing of a put has at an index. Assumes nothing.
-use Rattle.std.proofs.Common.{◌≡◌, ℕ, zero, suc, ◌+◌, ◌-◌, ◌<◌, ◌≤◌, cond, ◌&&◌, leb, List, [], ◌∷◌, ◌++◌, map, length, sym, refl, ap, ◌∙◌, subst, arith}
-use Rattle.std.specs.List.{range_with_len}
+use Rattle.std.proofs.Common.{◌≡◌, ℕ, zero, suc, ◌+◌, ◌-◌, ◌<◌, ◌≤◌, ◌&&◌, leb, ◌++◌, length, sym, refl, ap, subst, arith}
 use Rattle.std.proofs.lemmas.List.FromFn.{length-map-range_with_len}
 use Rattle.std.proofs.lemmas.Bool.{cond_both, cond-true, cond-false, and_from, and_left, and_right, le-leb, lt-leb, leb-true}
 use Rattle.sheet.specs.declared.place.Place.{Place}
@@ -8,8 +7,7 @@ use Rattle.sheet.specs.Places.{at}
 use Rattle.array.specs.declared.parameters.Parameters.{Parameters}
 use Rattle.array.specs.Layout.{steps, offset, step_node}
 use Rattle.array.proofs.Indexed.{At, at_left, at_right, at_counted}
-use Rattle.access.specs.Fetch.{lesser}
-use Rattle.access.specs.Put.{rule_places, crossings, crossed_places, carries, carried_places, put_places, put_size}
+use Rattle.access.specs.Put.{rule_places, crossings, crossed_places, carries, carried_places, put_places}
 use Rattle.access.proofs.Touched.{crossing, carrying, carries_few, put_length}
 
 -- how many symbols cross the row of an offset, and how many carry its symbol

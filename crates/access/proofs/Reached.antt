@@ -1,14 +1,13 @@
 -- What is owed of a fetch. Assumes nothing.
-use Rattle.std.proofs.Common.{◌≡◌, ℕ, zero, suc, ◌+◌, ◌-◌, ◌*◌, ◌<◌, ◌≤◌, true, cond, ◌&&◌, ltb, leb, ◌⊎◌, List, [], ◌∷◌, map, length, sym, refl, ap, ◌∙◌, subst, ap₂, inl, inr, ⊎_elim, arith}
+use Rattle.std.proofs.Common.{◌≡◌, ℕ, ◌+◌, ◌-◌, ◌*◌, ◌<◌, ◌≤◌, true, ◌&&◌, ltb, leb, ◌⊎◌, List, [], ◌∷◌, length, sym, refl, ap, ◌∙◌, subst, ap₂, inl, ⊎_elim, arith}
 use Rattle.std.proofs.lemmas.List.{length-map}
 use Rattle.std.proofs.lemmas.Bool.{cond_both, cond-true, cond-false, and_from, and_right, lt-ltb, le-ltb}
 use Rattle.field.specs.Laws.{Operations, FieldLaws}
 use Rattle.row.specs.Interpolation.{Apart}
 use Rattle.sheet.specs.declared.place.Place.{Place}
-use Rattle.sheet.specs.declared.place.Entry.{Entry}
 use Rattle.sheet.specs.declared.place.Part.{Part}
 use Rattle.sheet.specs.declared.place.Part.TheVariants.{First}
-use Rattle.sheet.specs.Places.{at, listed, distinct, distinct_from, places_of, in_part, Agree}
+use Rattle.sheet.specs.Places.{at, listed, distinct, places_of, in_part, Agree}
 use Rattle.code.specs.Codes.{Slotted}
 use Rattle.array.specs.declared.parameters.Parameters.{Parameters}
 use Rattle.array.specs.Layout.{nodes, steps, offset}
@@ -16,9 +15,9 @@ use Rattle.array.specs.Symbols.{array}
 use Rattle.array.proofs.Members.{In, in_listed, listed_in}
 use Rattle.array.proofs.Once.{Once, distinct_once}
 use Rattle.access.specs.Fetch.{way_of, reads, fetch_places, fetch_entries, fetch_size, fetch_symbol, fetch_slot}
-use Rattle.access.specs.Theorems.{Fetched, Fetches}
+use Rattle.access.specs.Theorems.{Fetches}
 use Rattle.access.proofs.Offsets.{x_below}
-use Rattle.access.proofs.Reading.{parity_place, Read, read, parity_inside, parity_past, reads_once, reads_size}
+use Rattle.access.proofs.Reading.{parity_place, read, parity_inside, parity_past, reads_once, reads_size}
 use Rattle.access.proofs.Slots.{cell_below, cell_apart}
 use Rattle.access.proofs.Solving.{solved}
 

@@ -1,21 +1,21 @@
 -- The places that a fetch reads. Assumes nothing.
-use Rattle.std.proofs.Common.{◌≡◌, ℕ, zero, suc, ◌+◌, ◌-◌, ◌<◌, ◌≤◌, cond, ◌&&◌, ltb, leb, ◌⊎◌, List, [], ◌∷◌, ◌++◌, map, length, sym, refl, ap, ◌∙◌, subst, inl, inr, ⊎_elim, arith}
+use Rattle.std.proofs.Common.{◌≡◌, ℕ, ◌+◌, ◌-◌, ◌<◌, ◌≤◌, ◌&&◌, ltb, leb, ◌⊎◌, List, ◌∷◌, map, length, sym, ap, ◌∙◌, subst, inl, inr, ⊎_elim, arith}
 use Rattle.std.specs.List.{range_with_len}
 use Rattle.std.proofs.lemmas.List.FromFn.{length-map-range_with_len}
 use Rattle.sheet.specs.declared.place.Place.{Place}
-use Rattle.sheet.specs.Places.{at, distinct, distinct_from}
+use Rattle.sheet.specs.Places.{at}
 use Rattle.array.specs.declared.parameters.Parameters.{Parameters}
 use Rattle.array.specs.Layout.{nodes, steps, reach, wrap, offset, step_node, skip}
 use Rattle.array.specs.Sheet.{row_places, local_places}
 use Rattle.array.proofs.Members.{In, from_map, from_counting}
-use Rattle.array.proofs.Once.{Once, once_map, distinct_once}
-use Rattle.array.proofs.Wraps.{Wrapped, wrapped, skip_cases, skip_not, skip_injective}
-use Rattle.std.proofs.lemmas.Bool.{cases_lt, cases_eq, cond-true, cond-false, and_from, and_left, and_right, lt-ltb, le-ltb, le-leb, lt-leb}
+use Rattle.array.proofs.Once.{Once, once_map}
+use Rattle.array.proofs.Wraps.{wrapped, skip_cases, skip_not, skip_injective}
+use Rattle.std.proofs.lemmas.Bool.{cases_lt, cond-true, cond-false, and_from, and_left, and_right, lt-ltb, le-ltb, le-leb, lt-leb}
 use Rattle.access.specs.declared.fetch.Way.{Way}
 use Rattle.access.specs.declared.fetch.Way.TheVariants.{OwnRow, OwnStep, LastStep}
 use Rattle.array.proofs.Indexed.{row_length}
 use Rattle.access.specs.Fetch.{way_of, step_reads, reads, lesser, fetch_size}
-use Rattle.access.proofs.Offsets.{by_way, offset_is, x_below, off_diagonal, past_node}
+use Rattle.access.proofs.Offsets.{by_way, x_below, off_diagonal, past_node}
 
 -- the one parity place that is read
 abbrev pub parity_place : Parameters → ℕ → ℕ → ℕ → Way → Place

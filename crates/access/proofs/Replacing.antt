@@ -1,5 +1,5 @@
 -- What is owed of a put. Assumes nothing.
-use Rattle.std.proofs.Common.{◌≡◌, ℕ, ◌+◌, ◌-◌, ◌<◌, ◌≤◌, true, cond, ◌⊎◌, List, ◌∷◌, ◌++◌, length, sym, refl, ap, ◌∙◌, subst, ap₂, inl, inr, ⊎_elim, arith}
+use Rattle.std.proofs.Common.{◌≡◌, ℕ, ◌+◌, ◌-◌, ◌<◌, ◌≤◌, true, cond, List, ◌∷◌, ◌++◌, length, sym, refl, ap, ◌∙◌, subst, ap₂, inl, inr, ⊎_elim, arith}
 use Rattle.std.proofs.lemmas.Bool.{cases_lt, cases_eq, cond-true, cond-false}
 use Rattle.field.specs.Laws.{Operations, FieldLaws}
 use Rattle.row.specs.Interpolation.{basis}
@@ -10,18 +10,18 @@ use Rattle.sheet.specs.Places.{at, listed, distinct, places_of}
 use Rattle.code.specs.Codes.{replaced}
 use Rattle.array.specs.declared.parameters.Parameters.{Parameters}
 use Rattle.array.specs.Layout.{nodes, steps, wrap, offset, first_step, step_node, step_of}
-use Rattle.array.specs.Symbols.{row_symbol, past, array}
+use Rattle.array.specs.Symbols.{array}
 use Rattle.array.proofs.Members.{In, in_listed, listed_in, not_listed}
 use Rattle.array.proofs.Once.{Once}
-use Rattle.array.proofs.Wraps.{Wrapped, wrapped}
+use Rattle.array.proofs.Wraps.{wrapped}
 use Rattle.array.proofs.Recovery.{array_data, array_plain, array_piggyback, array_local}
 use Rattle.access.specs.Put.{rule_places, crossed_places, carried_places, put_places, put_entries, put_size, put_weight}
-use Rattle.access.specs.Theorems.{Put, Puts}
+use Rattle.access.specs.Theorems.{Puts}
 use Rattle.access.proofs.Offsets.{x_below, off_diagonal, up_row, row_up, past_node, node_past}
 use Rattle.access.proofs.Reached.{unpart, length_part, distinct_self}
 use Rattle.access.proofs.Weights.{weight_rule, weight_row, weight_data, weight_step}
 use Rattle.access.proofs.Changing.{off, on, plus, row_off, row_on, past_off, past_on}
-use Rattle.access.proofs.Touched.{Rule, Crossed, Carried, Touched, touched, in_data, in_rule, in_crossed, in_carried, put_once, put_length, touched_inside}
+use Rattle.access.proofs.Touched.{Touched, touched, in_data, in_rule, in_crossed, in_carried, put_once, put_length, touched_inside}
 
 module _ {F : Type 0} {o : Operations F} (laws : FieldLaws o) (symbol : ℕ → F) (p : Parameters) (i j : ℕ) (hi : i < p.k) (hj : j < p.k) (x : ℕ) (is : offset p i j ≡ x) where
   open o use {one as 𝟙, sum as ◌⊕◌, product as ◌⊗◌, difference as ◌⊖◌}

@@ -1,5 +1,5 @@
 -- What a fetch computes is the symbol that is sought. Assumes nothing.
-use Rattle.std.proofs.Common.{◌≡◌, ℕ, ◌+◌, ◌-◌, ◌<◌, ◌≤◌, ◌⊎◌, List, ◌∷◌, map, sym, refl, ap, ◌∙◌, subst, ap₂, inl, inr, ⊎_elim, arith}
+use Rattle.std.proofs.Common.{◌≡◌, ℕ, ◌+◌, ◌-◌, ◌<◌, ◌≤◌, List, refl, ap, ◌∙◌, ap₂, inl, inr, arith}
 use Rattle.std.specs.List.{range_with_len}
 use Rattle.field.specs.Laws.{Operations, FieldLaws}
 use Rattle.row.specs.Interpolation.{Apart}
@@ -7,14 +7,13 @@ use Rattle.sheet.specs.declared.place.Place.{Place}
 use Rattle.sheet.specs.Places.{at}
 use Rattle.array.specs.declared.parameters.Parameters.{Parameters}
 use Rattle.array.specs.Layout.{steps, reach, wrap, offset, step_node, skip}
-use Rattle.array.specs.Symbols.{sum_to, sum_but, past, array}
+use Rattle.array.specs.Symbols.{sum_but, past, array}
 use Rattle.array.specs.Sheet.{row_places, local_places}
 use Rattle.array.specs.Recovered.{around, by_local_lem}
 use Rattle.array.proofs.Members.{In, in_map, in_counting}
-use Rattle.array.proofs.Wraps.{Wrapped, wrapped}
+use Rattle.array.proofs.Wraps.{wrapped}
 use Rattle.array.proofs.Parts.{in_row_places, in_local_node, in_local_step, in_local_past}
 use Rattle.array.proofs.Recovery.{take_left, take_right, sum_to_as, sum_but_as, sum_to_but, array_data, array_local, around_row, row_data}
-use Rattle.access.specs.declared.fetch.Way.{Way}
 use Rattle.access.specs.Fetch.{way_of, step_reads, reads, solved_by}
 use Rattle.access.proofs.Offsets.{by_way, x_below, row_up, node_past}
 

@@ -1,5 +1,5 @@
 -- The places that a put changes. Assumes nothing.
-use Rattle.std.proofs.Common.{◌≡◌, ℕ, zero, suc, ◌+◌, ◌-◌, ◌<◌, ◌≤◌, Bool, true, cond, ◌&&◌, leb, ◌⊎◌, List, [], ◌∷◌, ◌++◌, map, length, sym, refl, ap, ◌∙◌, subst, inl, inr, ⊎_elim, arith, length-append}
+use Rattle.std.proofs.Common.{◌≡◌, ℕ, ◌+◌, ◌-◌, ◌<◌, ◌≤◌, ◌&&◌, leb, ◌⊎◌, List, [], ◌∷◌, ◌++◌, length, sym, refl, ap, ◌∙◌, subst, inl, inr, ⊎_elim, arith, length-append}
 use Rattle.std.specs.List.{range_with_len}
 use Rattle.std.proofs.lemmas.List.FromFn.{length-map-range_with_len}
 use Rattle.std.proofs.lemmas.Bool.{cond_both, cond-true, and_parts, and_from, leb-true, leb-false, le-leb}
@@ -9,7 +9,6 @@ use Rattle.array.specs.declared.parameters.Parameters.{Parameters}
 use Rattle.array.specs.Layout.{nodes, steps, offset, step_node}
 use Rattle.array.proofs.Members.{In, in_left, in_right, in_append, in_map, in_counting, from_map, from_counting}
 use Rattle.array.proofs.Once.{Once, Disjoint, once_map}
-use Rattle.access.specs.Fetch.{lesser}
 use Rattle.access.specs.Put.{rule_places, crossings, crossed_places, carries, carried_places, put_places, put_size}
 use Rattle.access.proofs.Offsets.{off_diagonal}
 

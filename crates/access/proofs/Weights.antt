@@ -1,8 +1,8 @@
 -- The weight of a data symbol at a place. Assumes nothing.
-use Rattle.std.proofs.Common.{◌≡◌, ℕ, zero, suc, ◌+◌, ◌<◌, ◌≤◌, Bool, true, false, cond, ◌&&◌, eqb, ltb, leb, sym, refl, ap, ◌∙◌, ap₂, arith}
+use Rattle.std.proofs.Common.{◌≡◌, ℕ, zero, suc, ◌+◌, ◌<◌, ◌≤◌, cond, ◌&&◌, eqb, ltb, leb, sym, refl, ap, ◌∙◌, ap₂, arith}
 use Rattle.std.proofs.lemmas.Bool.{cond-true, cond-false, and_from, and_left, and_right, eq-eqb, ne_eqb, le-leb, lt-leb, lt-ltb, le-ltb}
 use Rattle.field.specs.Laws.{Operations}
-use Rattle.row.specs.Interpolation.{product_below, factor, others, basis}
+use Rattle.row.specs.Interpolation.{product_below, others, basis}
 use Rattle.array.specs.declared.parameters.Parameters.{Parameters}
 use Rattle.array.specs.Layout.{skip}
 use Rattle.access.specs.Put.{put_weight}

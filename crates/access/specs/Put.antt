@@ -1,5 +1,5 @@
 -- What replacing one data symbol changes: the places, and the weight of the difference at each. Assumes nothing.
-use Rattle.std.specs.Prelude.{ℕ, ◌+◌, ◌-◌, cond, ◌&&◌, List, [], ◌∷◌, ◌++◌, map, ◌==◌, nat_le, nat_lt}
+use Rattle.std.specs.Prelude.{ℕ, ◌+◌, ◌-◌, cond, ◌&&◌, List, ◌∷◌, ◌++◌, map, ◌==◌, nat_le, nat_lt}
 use Rattle.std.specs.List.{range_with_len}
 use Rattle.field.specs.Laws.{Operations}
 use Rattle.row.specs.Interpolation.{basis}

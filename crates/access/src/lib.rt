@@ -1,4 +1,6 @@
 // One data symbol of a code array: the places that a fetch of it reads, and those that a put of it changes.
+#![tactic(auto)]
+
 ghost use Rattle.row.specs.Numbered.{numbered as numbered_of};
 ghost use Rattle.access.specs.Theorems.{Fetches, Puts};
 

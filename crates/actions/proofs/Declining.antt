@@ -1,5 +1,5 @@
 -- The checks of a call, in their order.
-use Rattle.std.proofs.Common.{◌≡◌, ℕ, zero, suc, ◌+◌, ◌*◌, ◌<◌, ◌≤◌, Bool, true, false, cond, ◌&&◌, ◌||◌, eqb, ltb, leb, ◌⊎◌, Some, None, Ok, Err, Option, Result, sym, refl, ap, ◌∙◌, ap₂, inl, inr, mul-le-mul, add-one, arith}
+use Rattle.std.proofs.Common.{◌≡◌, ℕ, zero, suc, ◌+◌, ◌*◌, ◌<◌, ◌≤◌, Bool, true, false, cond, ◌&&◌, eqb, ltb, leb, ◌⊎◌, Some, None, Ok, Err, Option, Result, sym, refl, ap, ◌∙◌, inl, inr, mul-le-mul, add-one, arith}
 use Rattle.std.proofs.lemmas.Bool.{leb-true, ltb-true, lt-ltb, le-ltb, le-leb, lt-leb, eq-eqb, ne_eqb, eqb-true, and_parts, and_from, and_left, and_right, cond-true, cond-false, cases_eq, or_left, or_right, or_from}
 use Rattle.store.specs.Meaning.{Meaning, on, judged, probed, fault}
 use Rattle.store.specs.declared.fault.StoreFault.{StoreFault}
@@ -9,7 +9,7 @@ use Rattle.code.specs.Codes.{CodeMeaning, is_blank}
 use Rattle.calls.specs.Calls.{fits, suited, set_decline, node_decline, put_decline, fetch_decline, mend_decline, lost, any_blank}
 use Rattle.calls.specs.declared.call.Reason.{Reason}
 use Rattle.calls.specs.declared.call.Reason.TheVariants.{SmallField, SmallStore, OutOfRange, WrongLength, ShortMemory, NotLost}
-use Rattle.calls.proofs.Declines.{suited_passed, suited_rest, fits_parts, passed}
+use Rattle.calls.proofs.Declines.{suited_passed, suited_rest, passed}
 
 module _ {F : Type 0} (size : ℕ) (code : CodeMeaning F) (m : Meaning F) where
   -- the field, and then the store

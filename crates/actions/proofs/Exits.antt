@@ -1,18 +1,18 @@
 -- Each exit of a call, by what led to it.
-use Rattle.std.proofs.Common.{◌≡◌, ℕ, ◌+◌, ◌<◌, ◌≤◌, Bool, true, false, cond, ltb, leb, ◌⊎◌, List, [], ◌∷◌, map, length, get_or, Some, None, Ok, Err, Option, Result, sym, refl, ap, ◌∙◌, subst, ap₂, inl, inr, arith}
-use Rattle.std.proofs.lemmas.Bool.{lt-ltb, le-leb, lt-leb, cond-true, cond-false}
-use Rattle.store.specs.Meaning.{Meaning, on, probed, summed, total, fault}
+use Rattle.std.proofs.Common.{◌≡◌, ℕ, ◌<◌, ◌≤◌, true, false, cond, ltb, List, [], ◌∷◌, map, length, Some, None, Ok, Err, Option, Result, sym, refl, ap, ◌∙◌, subst, ap₂, inl, inr, arith}
+use Rattle.std.proofs.lemmas.Bool.{lt-ltb, cond-true}
+use Rattle.store.specs.Meaning.{Meaning, on, summed, total, fault}
 use Rattle.store.specs.declared.fault.StoreFault.{StoreFault}
 use Rattle.store.specs.declared.fault.Cause.TheVariants.{OffStore}
 use Rattle.sheet.specs.declared.place.Entry.{Entry}
 use Rattle.sheet.specs.declared.place.Record.{Record}
 use Rattle.sheet.specs.declared.place.Part.TheVariants.{First}
-use Rattle.sheet.specs.Places.{at, listed, places_of, distinct, sheet_of}
+use Rattle.sheet.specs.Places.{at, listed, places_of, sheet_of}
 use Rattle.sheet.proofs.Lists.{distinct_one, listed_one}
 use Rattle.sheet.specs.declared.place.Place.{Place}
 use Rattle.code.specs.Codes.{CodeMeaning, Recipe, Slotted, blanks, is_blank}
-use Rattle.calls.specs.Reading.{symbol_at, seen, raised, painted, in_node, blank_below, wiped, blank_record}
-use Rattle.calls.specs.Calls.{fits, suited, make_decline, Made, answered, unless, Plain, Read, Unread, Declined, Sheeted, node_meters, given_by, held, fetch_decline, fetch_recipe, found, FetchedBy, FetchDone, mend_decline, mend_recipe, mend_sheet, mended, MendDone, after_memory}
+use Rattle.calls.specs.Reading.{symbol_at, seen, raised, painted, in_node, wiped, blank_record}
+use Rattle.calls.specs.Calls.{answered, unless, Plain, Sheeted, node_meters, given_by, held, fetch_recipe, found, FetchedBy, mend_recipe, mend_sheet, mended, after_memory}
 use Rattle.calls.specs.Faults.{sheet_fault, call_fault}
 use Rattle.calls.specs.declared.call.CallName.{CallName}
 use Rattle.calls.specs.declared.call.CallName.TheVariants.{Fetch, Mend}
@@ -20,7 +20,6 @@ use Rattle.calls.specs.declared.call.Reason.{Reason}
 use Rattle.calls.specs.declared.call.CallFault.{CallFault}
 use Rattle.calls.specs.declared.call.SheetFault.{SheetFault}
 use Rattle.calls.specs.declared.call.Found.{Found}
-use Rattle.calls.proofs.Declines.{suited_rest}
 use Rattle.reading.specs.Checks.{checked, Readable}
 use Rattle.reading.proofs.Lists.{places_length, places_at, listed_here, one_listed}
 use Rattle.reading.proofs.Checking.{checked_clear, checked_stops}

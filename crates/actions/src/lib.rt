@@ -1,4 +1,6 @@
 // What the calls of an engine are made of: their checks, and reading, writing, fetching and mending by a code.
+#![tactic(auto)]
+
 mod declines;
 mod fetching;
 mod mending;

@@ -1,4 +1,6 @@
 // Answers the session on standard input, line by line: it only moves bytes.
+#![tactic(auto)]
+
 use desk::state::Desk;
 use session::held::Feed;
 use std::io;

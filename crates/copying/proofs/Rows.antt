@@ -1,12 +1,11 @@
 -- Copying row by row.
-use Rattle.std.proofs.Common.{◌≡◌, ℕ, zero, suc, ◌+◌, ◌-◌, ◌<◌, ◌≤◌, Bool, true, false, cond, ◌&&◌, eqb, ltb, is_some, is_ok, Some, None, Ok, Err, Option, Result, sym, refl, ap, ◌∙◌, ⊎_elim, add-one, arith}
+use Rattle.std.proofs.Common.{◌≡◌, ℕ, zero, suc, ◌+◌, ◌<◌, ◌≤◌, Bool, true, false, cond, ltb, is_some, is_ok, Some, None, Ok, Err, Option, Result, sym, refl, ap, ◌∙◌, ⊎_elim, add-one, arith}
 use Rattle.std.proofs.lemmas.Bool.{false≢true, cases_lt}
 use Rattle.std.proofs.lemmas.Bool.Decides.{nat_tests}
 use Rattle.store.specs.declared.fault.StoreFault.{StoreFault}
-use Rattle.store.specs.Meaning.{Meaning, on, at, judged, probed, metered, read, written}
+use Rattle.store.specs.Meaning.{Meaning, on, probed, metered, read, written}
 use Rattle.store.proofs.Same.{same, probed_held}
 use Rattle.copying.specs.declared.fault.CopyFault.{CopyFault}
-use Rattle.copying.specs.declared.fault.CopyFault.TheVariants.{Source, Target}
 use Rattle.copying.specs.Copies.{place_fault, row_fault, copy_fault, first, answered, drained, filled}
 
 -- the fault behind an answer

@@ -1,4 +1,6 @@
 // Copying a node from one store to another: code over any two stores, proved with nothing but what a store means.
+#![tactic(auto)]
+
 ghost use Rattle.std.specs.Prelude.{◌≡◌, None};
 ghost use Rattle.copying.specs.Copies.{row_fault, copy_fault, answered, drained, filled, moved};
 

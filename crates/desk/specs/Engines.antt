@@ -1,5 +1,5 @@
 -- What an engine does at a make and at a call. Assumes nothing.
-use Rattle.std.specs.Prelude.{◌≡◌, ℕ, Option, Result}
+use Rattle.std.specs.Prelude.{ℕ, Option, Result}
 use Rattle.field.specs.Laws.{Operations}
 use Rattle.row.specs.Numbered.{numbered}
 use Rattle.store.specs.Meaning.{Meaning}

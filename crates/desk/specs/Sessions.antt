@@ -3,11 +3,8 @@ use Rattle.std.specs.Prelude.{◌≡◌, ℕ, List, Ok, Err, Result}
 use Rattle.field.specs.Decimal.{symbol_of, decimal}
 use Rattle.field.specs.declared.decimal.Decimal.{Decimal}
 use Rattle.byte.specs.Bytes.{byte_operations, byte_symbol}
-use Rattle.byte.specs.declared.byte.Byte.{Byte}
 use Rattle.symbols.specs.Words.{decimal_word, byte_word}
 use Rattle.kept.specs.Stores.{bank_means, image_means}
-use Rattle.kept.specs.declared.holding.KeptBank.{KeptBank}
-use Rattle.kept.specs.declared.holding.KeptImage.{KeptImage}
 use Rattle.lines.specs.declared.line.LineFault.{LineFault}
 use Rattle.requests.specs.declared.request.Request.{Request}
 use Rattle.requests.specs.Reading.{Read}

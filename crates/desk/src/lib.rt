@@ -1,4 +1,6 @@
 // A session of calls: its state, and what each line is answered.
+#![tactic(auto)]
+
 pub mod answering;
 pub mod asking;
 pub mod machine;

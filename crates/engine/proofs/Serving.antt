@@ -5,7 +5,7 @@ use Rattle.store.specs.Meaning.{Meaning}
 use Rattle.sheet.specs.declared.place.Record.{Record}
 use Rattle.code.specs.Codes.{CodeMeaning, CodeLaws}
 use Rattle.calls.specs.Calls.{SetDone, PutDone, FetchDone, LoseDone, RefreshDone, MendDone, after_memory}
-use Rattle.calls.specs.History.{Ask, set, put, fetch, lose, refresh, mend, Event, Step, mapped, found_answer, served_memory}
+use Rattle.calls.specs.History.{Ask, set, put, fetch, lose, refresh, mend, Step, mapped, found_answer, served_memory}
 use Rattle.calls.specs.Theorem.{Extends}
 use Rattle.calls.specs.declared.call.Answer.{Answer}
 use Rattle.calls.specs.declared.call.Answer.TheVariants.{Counted, Cleared}

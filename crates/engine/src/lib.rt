@@ -1,4 +1,6 @@
 // An engine over an erasure code: making, the six calls on a store, and the call that serves any of them.
+#![tactic(auto)]
+
 ghost use Rattle.std.specs.Prelude.{◌≡◌, length, OnOk};
 ghost use Rattle.calls.specs.Calls.{SetDone, PutDone, FetchDone, LoseDone, RefreshDone, MendDone, after_memory};
 ghost use Rattle.calls.specs.History.{asked, Step, served_memory};

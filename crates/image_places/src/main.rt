@@ -1,5 +1,7 @@
 // Prints what each place of a card image means: its meter and what probe answers, before and after its node is refreshed.
 // The input is the letter d for decimal symbols or b for byte symbols, one byte for the rows, one for the nodes, and the memory.
+#![tactic(auto)]
+
 use byte::Byte;
 use field::{Decimal, NumberedField};
 use image::CardImage;

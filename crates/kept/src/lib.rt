@@ -1,4 +1,6 @@
 // Stores of 32 rows and 93 nodes that own their memory.
+#![tactic(auto)]
+
 ghost use Rattle.std.specs.Prelude.{◌≡◌, IfOk};
 ghost use Rattle.store.specs.Meaning.{blank as fresh};
 ghost use Rattle.kept.specs.Stores.{bank_means, image_means};

@@ -1,4 +1,6 @@
 // The two-class engine on a concrete store: the theorem over every history gives its claims at the end.
+#![tactic(auto)]
+
 ghost use Rattle.std.specs.Prelude.{OnOk};
 ghost use Rattle.field.specs.Decimal.{symbol_of, decimal as decimal_operations};
 ghost use Rattle.row.specs.Numbered.{numbered as numbered_of};

@@ -1,5 +1,5 @@
 -- What a making that the engine accepts or declines says of the parameters and the store. Assumes nothing.
-use Rattle.std.proofs.Common.{◌≡◌, ℕ, ◌+◌, ◌<◌, ◌≤◌, Bool, true, false, cond, ◌&&◌, ltb, leb, Some, None, Ok, Err, Option, Result, sym, refl, ap, ◌∙◌, subst, arith}
+use Rattle.std.proofs.Common.{◌≡◌, ℕ, ◌+◌, ◌≤◌, Bool, true, false, cond, ◌&&◌, ltb, leb, Some, None, Ok, Err, Option, sym, refl, ap, ◌∙◌, arith}
 use Rattle.std.proofs.lemmas.Bool.{ltb-false, le-leb, cond-true, cond-false}
 use Rattle.field.specs.Laws.{Operations}
 use Rattle.store.specs.Meaning.{Meaning}
@@ -14,7 +14,6 @@ use Rattle.calls.specs.Calls.{fits}
 use Rattle.engine.specs.Making.{make_answer, make_leaves}
 use Rattle.engine.specs.declared.make.MakeFault as engine_fault
 use Rattle.repair.specs.TwoClass.{two_class_lem}
-use Rattle.repair.specs.declared.fault.MakeFault.{MakeFault}
 use Rattle.repair.specs.declared.fault.MakeFault.TheVariants.{Unfit, SmallStore}
 use Rattle.repair.specs.Promise.{make_declined, store_declined, unfit_or}
 

@@ -1,13 +1,11 @@
 -- What the plans of the two-class code promise an engine. Assumes nothing.
-use Rattle.std.proofs.Common.{◌≡◌, ℕ, ◌+◌, ◌*◌, ◌%◌, ◌<◌, ◌≤◌, true, length, sym, refl, ap, ◌∙◌, subst, inl, arith}
-use Rattle.field.specs.Laws.{Operations}
+use Rattle.std.proofs.Common.{◌≡◌, ℕ, ◌*◌, ◌<◌, true, sym, refl, ◌∙◌, subst, inl, arith}
 use Rattle.sheet.specs.Places.{at, listed, places_of, sheet_of}
 use Rattle.sheet.proofs.Lists.{listed_distinct}
 use Rattle.code.specs.Codes.{Slotted}
 use Rattle.array.specs.declared.parameters.Parameters.{Parameters}
 use Rattle.array.specs.Layout.{nodes, wrap}
 use Rattle.array.specs.Sheet.{mend_entries, node_sheet, slot}
-use Rattle.array.specs.Theorems.{Slots}
 use Rattle.array.proofs.Slots.{slots}
 use Rattle.array.proofs.Wraps.{wrapped_is}
 

@@ -1,11 +1,10 @@
 -- The read sheets of the two-class code, and what a mend counts. Assumes nothing.
-use Rattle.std.proofs.Common.{◌≡◌, ℕ, ◌<◌, ◌≤◌, ◌⊎◌, length, Ok, Err, Result, sym, refl, ap, ◌∙◌, inl, inr, arith}
+use Rattle.std.proofs.Common.{◌≡◌, ℕ, length, Ok, Result, refl, ap, ◌∙◌, inl, inr, arith}
 use Rattle.field.specs.Laws.{Operations}
 use Rattle.store.specs.Meaning.{Meaning}
 use Rattle.code.specs.Codes.{CodeMeaning}
 use Rattle.array.specs.declared.parameters.Parameters.{Parameters}
 use Rattle.array.specs.Sheet.{node_sheet}
-use Rattle.array.specs.Theorems.{sheet_size}
 use Rattle.array.proofs.Size.{sized}
 use Rattle.calls.specs.declared.call.CallName.TheVariants.{Mend}
 use Rattle.calls.specs.declared.call.CallFault.{CallFault}

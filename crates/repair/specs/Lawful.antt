@@ -1,21 +1,16 @@
 -- The two-class code keeps the laws of a code. Assumes nothing.
-use Rattle.std.specs.Prelude.{◌≡◌, ℕ, ◌+◌, ◌*◌, ◌<◌, ◌≤◌, Bool, true, false, cond, length, nat_lt, refl}
+use Rattle.std.specs.Prelude.{◌≡◌, ℕ, ◌+◌, ◌<◌, ◌≤◌, true, nat_lt}
 use Rattle.std.proofs.Math.Path.{sym}
-use Rattle.std.proofs.Common.{ap, ◌∙◌, arith}
+use Rattle.std.proofs.Common.{◌∙◌, arith}
 use Rattle.std.proofs.lemmas.Bool.{lt-ltb, cond-true}
-use Rattle.field.specs.Laws.{Operations, FieldLaws}
-use Rattle.sheet.specs.declared.place.Place.{Place}
-use Rattle.sheet.specs.Places.{at, listed, places_of, sheet_of, distinct, Agree}
+use Rattle.field.specs.Laws.{Operations}
+use Rattle.sheet.specs.Places.{at, listed, places_of, sheet_of}
 use Rattle.sheet.proofs.Lists.{listed_distinct}
-use Rattle.code.specs.Codes.{CodeMeaning, CodeLaws, Recovers, Replaces, replaced}
+use Rattle.code.specs.Codes.{CodeLaws}
 use Rattle.array.specs.declared.parameters.Parameters.{Parameters}
-use Rattle.array.specs.Layout.{nodes}
 use Rattle.array.specs.Symbols.{array}
 use Rattle.array.specs.Sheet.{mend_entries, node_sheet}
-use Rattle.array.specs.Recovered.{restored}
 use Rattle.array.specs.Theorems.{Restores, AllStand}
-use Rattle.access.specs.Fetch.{fetch_entries, fetch_symbol}
-use Rattle.access.specs.Put.{put_entries, put_weight}
 use Rattle.access.specs.Theorems.{Fetches, Puts}
 use Rattle.repair.specs.TwoClass.{two_class_lem}
 

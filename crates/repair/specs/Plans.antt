@@ -1,5 +1,5 @@
 -- What the plans of the two-class code list, keep and solve. Assumes nothing.
-use Rattle.std.specs.Prelude.{◌≡◌, ℕ, ◌+◌, ◌<◌, ◌≤◌, List}
+use Rattle.std.specs.Prelude.{ℕ, ◌+◌, ◌<◌, ◌≤◌, List}
 use Rattle.field.specs.Laws.{Operations}
 use Rattle.sheet.specs.declared.place.Entry.{Entry}
 use Rattle.array.specs.Sheet.{mend_entries, slot}

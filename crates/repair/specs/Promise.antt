@@ -1,5 +1,5 @@
 -- What the repair part promises of making, and of every call after every history. Assumes nothing.
-use Rattle.std.specs.Prelude.{◌≡◌, ℕ, ◌+◌, ◌*◌, ◌<◌, ◌≤◌, Bool, cond, ◌&&◌, length, Some, None, Ok, Err, Option, Result, nat_le}
+use Rattle.std.specs.Prelude.{◌≡◌, ℕ, ◌+◌, ◌<◌, ◌≤◌, cond, ◌&&◌, length, Some, None, Ok, Err, Option, Result, nat_le}
 use Rattle.field.specs.Laws.{Operations}
 use Rattle.store.specs.Meaning.{Meaning}
 use Rattle.array.specs.declared.parameters.Parameters.{Parameters}
@@ -8,12 +8,12 @@ use Rattle.array.specs.Checks.{declined_over, fault_number}
 use Rattle.array.specs.Sheet.{node_sheet}
 use Rattle.array.specs.Theorems.{sheet_size}
 use Rattle.calls.specs.declared.call.Answer.{Answer}
-use Rattle.calls.specs.declared.call.Answer.TheVariants.{Counted, Fetched, Cleared}
+use Rattle.calls.specs.declared.call.Answer.TheVariants.{Counted}
 use Rattle.calls.specs.declared.call.CallFault.{CallFault}
 use Rattle.calls.specs.Reading.{blank_below}
 use Rattle.calls.specs.Calls.{mend_sheet}
-use Rattle.calls.specs.History.{Ask, set, put, fetch, lose, refresh, mend, Event}
-use Rattle.calls.specs.Theorem.{Extends, Begun}
+use Rattle.calls.specs.History.{Ask, set, put, fetch, lose, refresh, mend}
+use Rattle.calls.specs.Theorem.{Begun}
 use Rattle.repair.specs.TwoClass.{two_class_lem}
 use Rattle.repair.specs.declared.fault.MakeFault.{MakeFault}
 use Rattle.repair.specs.declared.fault.MakeFault.TheVariants.{Unfit, SmallStore}

@@ -1,4 +1,6 @@
 // The repair part: the engine over the two-class code, with what is promised of it over every history of calls.
+#![tactic(auto)]
+
 ghost use Rattle.std.specs.Prelude.{◌≡◌, ◌+◌, ◌≤◌, length};
 ghost use Rattle.row.specs.Numbered.{numbered as numbered_of};
 ghost use Rattle.array.specs.declared.parameters.Parameters.{Parameters as Shape};

@@ -1,4 +1,6 @@
 // Answers a session on standard input, in chunks, with no engine behind it.
+#![tactic(auto)]
+
 mod echo;
 #[cfg(test)]
 mod tests;

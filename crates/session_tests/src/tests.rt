@@ -81,9 +81,9 @@ fn an_empty_input(rt: HostRuntime) -> Result<(), Fail> {
 #[test]
 fn empty_lines(rt: HostRuntime) -> Result<(), Fail> {
     let one = answered(rt.alloc(), b"\n", 1)?;
-    assert!(rt; one.as_slice() == b"no\t21\t-\t-\n");
+    assert!(rt; one.as_slice() == b"no\t21\t-\t-\n".as_slice());
     let two = answered(rt.alloc(), b"\n\n", 1)?;
-    assert!(rt; two.as_slice() == b"no\t21\t-\t-\nno\t21\t-\t-\n");
+    assert!(rt; two.as_slice() == b"no\t21\t-\t-\nno\t21\t-\t-\n".as_slice());
     Ok(())
 }
 
@@ -95,7 +95,7 @@ fn any_chunks(rt: HostRuntime) -> Result<(), Fail> {
         b"no\t44\t-\t-\nok\t3\nno\t21\t-\t-\nok\t1\t255\nno\t24\t-\t-\nno\t22\t-\t-\nno\t24\t-\t-\nok\t8\n";
     for size in 1..90usize {
         let out = answered(rt.alloc(), input, size)?;
-        assert!(rt; out.as_slice() == expected);
+        assert!(rt; out.as_slice() == expected.as_slice());
     }
     Ok(())
 }

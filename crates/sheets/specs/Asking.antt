@@ -1,5 +1,5 @@
 -- What a line asks for: the parameters of a code and one of its nodes, or why there is no such. Assumes nothing.
-use Rattle.std.specs.Prelude.{◌≡◌, ℕ, ◌+◌, ◌<◌, ◌≤◌, List, [], ◌∷◌, length, Some, None, Ok, Err, decimal, Result}
+use Rattle.std.specs.Prelude.{◌≡◌, ℕ, ◌+◌, ◌≤◌, List, [], ◌∷◌, length, Some, None, Ok, Err, Result}
 use Rattle.text.specs.Numbers.{Spells}
 use Rattle.text.specs.Words.{Placed, words, texts}
 use Rattle.array.specs.Checks.{declined, fault_number}

@@ -1,4 +1,6 @@
 // Prints the read sheets of nodes: for each line of parameters and a node, what a mend of that node reads.
+#![tactic(auto)]
+
 mod asking;
 mod printing;
 

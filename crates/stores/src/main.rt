@@ -1,4 +1,6 @@
 // Walks through every call and every decline of both stores, with both fields, and prints what each answered.
+#![tactic(auto)]
+
 use bank::{Bank, Cell};
 use byte::Byte;
 use field::{Decimal, NumberedField};

@@ -6,12 +6,12 @@ use Rattle.code.specs.Codes.{CodeMeaning}
 use Rattle.calls.specs.declared.call.Call.{Call}
 use Rattle.calls.specs.declared.call.Answer.{Answer}
 use Rattle.calls.specs.declared.call.CallFault.{CallFault}
-use Rattle.calls.specs.History.{Ask, asked, Event, Leads}
+use Rattle.calls.specs.History.{Ask, asked, Event}
 use Rattle.calls.specs.Theorem.{Extends, Begun}
 use Rattle.calls.specs.Calls.{fits}
 use Rattle.engine.specs.Making.{make_answer}
 use Rattle.engine.specs.declared.make.MakeFault.TheVariants.{SmallField, SmallStore}
-use Rattle.tour.specs.Tour.{Reached, Continued, Onward, asks_of, asked_after}
+use Rattle.tour.specs.Tour.{Reached, Onward, asks_of, asked_after}
 
 asked_push : {F : Type 0} (calls : List (Call F)) (c : Call F) (earlier : List (Ask F)) → asked_after (calls ++ (c ∷ [])) earlier ≡ asked c ∷ asked_after calls earlier
 unfolding asked_after

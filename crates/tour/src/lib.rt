@@ -1,4 +1,6 @@
 // Callers of an engine: a few calls, and any calls, with what the theorem says at their end.
+#![tactic(auto)]
+
 ghost use Rattle.std.specs.Prelude.{◌≡◌, OnOk};
 ghost use Rattle.calls.specs.History.{asked};
 ghost use Rattle.tour.specs.Tour.{Onward, Reached};

@@ -1,6 +1,5 @@
-use Rattle.std.proofs.Common.{◌≡◌, Ok, Err, sym, ap, ◌∙◌, arith}
+use Rattle.std.proofs.Common.{sym, ap, ◌∙◌, arith}
 use Rattle.store.specs.Meaning.{Meaning, probed, read, written}
-use Rattle.copying.specs.Copies.{drained, filled}
 use Rattle.copying.proofs.Rows.{fault_none, drained_more, filled_more, never_declined}
 use Rattle.copying.proofs.carry.Goals.{in-Ok, in-Err}
 use Rattle.copying.proofs.carry.Goals as goal

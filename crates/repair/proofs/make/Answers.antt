@@ -1,4 +1,4 @@
-use Rattle.std.proofs.Common.{◌≡◌, sym, refl, ap, ◌∙◌, subst, arith}
+use Rattle.std.proofs.Common.{sym, refl, ap, ◌∙◌, subst, arith}
 use Rattle.row.specs.Numbered.{numbered}
 use Rattle.calls.specs.Theorem.{Begun}
 use Rattle.repair.specs.TwoClass.{two_class_lem}

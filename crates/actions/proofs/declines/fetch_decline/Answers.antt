@@ -1,4 +1,4 @@
-use Rattle.std.proofs.Common.{◌≡◌, true, false, ◌&&◌, ◌⊎◌, sym, refl, ap, ◌∙◌, subst, ap₂, inl, inr, arith}
+use Rattle.std.proofs.Common.{arith}
 use Rattle.actions.proofs.Declining.{fetch_stop, fetch_short, fetch_open}
 use Rattle.actions.proofs.declines.fetch_decline.Goals as goal
 

@@ -1,4 +1,4 @@
-use Rattle.std.proofs.Common.{◌≡◌, true, false, ◌&&◌, ◌⊎◌, sym, refl, ap, ◌∙◌, subst, ap₂, inl, inr, arith}
+use Rattle.std.proofs.Common.{◌≡◌, sym, ap, ◌∙◌, arith}
 use Rattle.calls.specs.Calls.{any_blank}
 use Rattle.actions.proofs.Declining.{blank_none, blank_stays, blank_found}
 use Rattle.actions.proofs.Painting.{on_from}

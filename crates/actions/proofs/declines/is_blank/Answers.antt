@@ -1,4 +1,4 @@
-use Rattle.std.proofs.Common.{◌≡◌, true, false, ◌&&◌, ◌⊎◌, Ok, Err, sym, refl, ap, ◌∙◌, subst, ap₂, inl, inr, arith}
+use Rattle.std.proofs.Common.{Err}
 use Rattle.actions.proofs.Declining.{blank_is, held_is, not_blank_ok, not_blank_off, not_blank_worn}
 use Rattle.actions.proofs.declines.is_blank.Goals as goal
 

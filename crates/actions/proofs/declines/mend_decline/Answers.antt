@@ -1,4 +1,4 @@
-use Rattle.std.proofs.Common.{◌≡◌, true, false, ◌&&◌, ◌⊎◌, sym, refl, ap, ◌∙◌, subst, ap₂, inl, inr, arith}
+use Rattle.std.proofs.Common.{sym, ap, ◌∙◌, arith}
 use Rattle.calls.specs.Calls.{lost, any_blank}
 use Rattle.calls.proofs.Declines.{fits_parts}
 use Rattle.actions.proofs.Declining.{mend_stop, mend_short, mend_whole, mend_go_on, node_on}

@@ -1,4 +1,4 @@
-use Rattle.std.proofs.Common.{◌≡◌, true, false, ◌&&◌, ◌⊎◌, sym, refl, ap, ◌∙◌, subst, ap₂, inl, inr, arith}
+use Rattle.std.proofs.Common.{arith}
 use Rattle.actions.proofs.Declining.{node_stop, node_off, node_open}
 use Rattle.actions.proofs.declines.node_decline.Goals as goal
 

@@ -1,4 +1,4 @@
-use Rattle.std.proofs.Common.{◌≡◌, true, false, ◌&&◌, ◌⊎◌, sym, refl, ap, ◌∙◌, subst, ap₂, inl, inr, arith}
+use Rattle.std.proofs.Common.{inl, inr, arith}
 use Rattle.actions.proofs.Declining.{put_stop, put_off, put_open}
 use Rattle.actions.proofs.declines.put_decline.Goals as goal
 

@@ -1,4 +1,4 @@
-use Rattle.std.proofs.Common.{◌≡◌, ◌*◌, true, false, ◌&&◌, ◌⊎◌, None, sym, refl, ap, ◌∙◌, subst, ap₂, inl, inr, arith}
+use Rattle.std.proofs.Common.{◌*◌, None, sym, ◌∙◌, ap₂, arith}
 use Rattle.calls.proofs.Declines.{suited_passed, fits_parts}
 use Rattle.actions.proofs.Declining.{set_stop, set_length, set_open, area_few}
 use Rattle.actions.proofs.declines.set_decline.Goals as goal

@@ -1,4 +1,4 @@
-use Rattle.std.proofs.Common.{◌≡◌, true, false, ◌&&◌, ◌⊎◌, sym, refl, ap, ◌∙◌, subst, ap₂, inl, inr, arith}
+use Rattle.std.proofs.Common.{sym, arith}
 use Rattle.actions.proofs.Declining.{small_field, small_store, large_both}
 use Rattle.actions.proofs.declines.unsuited.Goals as goal
 

@@ -1,4 +1,4 @@
-use Rattle.std.proofs.Common.{◌≡◌, ◌<◌, length, sym, refl, ap, ◌∙◌, subst, ap₂, arith}
+use Rattle.std.proofs.Common.{◌≡◌, ◌<◌, length, ap, ◌∙◌, arith}
 use Rattle.sheet.specs.Places.{places_of}
 use Rattle.reading.proofs.Lists.{places_length, places_at, listed_here}
 use Rattle.actions.specs.Patching.{first_difference}

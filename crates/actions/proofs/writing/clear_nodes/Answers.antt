@@ -1,4 +1,4 @@
-use Rattle.std.proofs.Common.{◌≡◌, true, false, ◌&&◌, ◌⊎◌, sym, refl, ap, ◌∙◌, subst, ap₂, inl, inr, arith}
+use Rattle.std.proofs.Common.{◌≡◌, sym, ap, ◌∙◌, arith}
 use Rattle.calls.specs.Reading.{blank_below}
 use Rattle.actions.proofs.Painting.{blank_start, blank_more}
 use Rattle.actions.proofs.writing.clear_nodes.Goals as goal

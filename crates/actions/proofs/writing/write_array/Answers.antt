@@ -1,4 +1,4 @@
-use Rattle.std.proofs.Common.{◌≡◌, ◌+◌, true, false, ◌&&◌, ◌⊎◌, sym, refl, ap, ◌∙◌, subst, ap₂, inl, inr, arith}
+use Rattle.std.proofs.Common.{◌≡◌, ◌+◌, sym, ap, ◌∙◌, arith}
 use Rattle.calls.specs.Reading.{painted, in_array, in_node}
 use Rattle.calls.proofs.Declines.{fits_parts}
 use Rattle.actions.proofs.Painting.{painted_none, painted_twice, rows_painted, array_start, array_more, node_row}

@@ -1,4 +1,4 @@
-use Rattle.std.proofs.Common.{◌≡◌, ◌+◌, true, false, ◌&&◌, ◌⊎◌, sym, refl, ap, ◌∙◌, subst, ap₂, inl, inr, arith}
+use Rattle.std.proofs.Common.{◌≡◌, ◌+◌, sym, ap, ◌∙◌, arith}
 use Rattle.calls.specs.Reading.{painted, in_node}
 use Rattle.actions.proofs.Painting.{painted_none, paint_more, node_start, node_more}
 use Rattle.actions.proofs.writing.write_node.Goals as goal

@@ -1,4 +1,4 @@
-use Rattle.std.proofs.Common.{◌≡◌, length, sym, refl, ap, ◌∙◌, subst, ap₂, arith}
+use Rattle.std.proofs.Common.{length, sym, refl, ap, ◌∙◌, arith}
 use Rattle.sheet.specs.Places.{at, listed, places_of, sheet_of}
 use Rattle.code.specs.Codes.{blanks}
 use Rattle.calls.specs.Reading.{raised}

@@ -1,4 +1,4 @@
-use Rattle.std.proofs.Common.{◌≡◌, true, false, ◌&&◌, ◌⊎◌, Ok, sym, refl, ap, ◌∙◌, subst, ap₂, inl, inr, arith}
+use Rattle.std.proofs.Common.{Ok, ap, arith}
 use Rattle.store.specs.Meaning.{cleared}
 use Rattle.calls.specs.Calls.{LoseDone, node_decline, node_meters}
 use Rattle.calls.specs.declared.call.CallName.TheVariants.{Lose}

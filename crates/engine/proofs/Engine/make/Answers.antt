@@ -1,4 +1,4 @@
-use Rattle.std.proofs.Common.{◌≡◌, true, false, ◌&&◌, ◌⊎◌, sym, refl, ap, ◌∙◌, subst, ap₂, inl, inr, arith}
+use Rattle.std.proofs.Common.{sym, ap, ◌∙◌, arith}
 use Rattle.calls.specs.Reading.{blank_below}
 use Rattle.calls.proofs.Declines.{fits_parts}
 use Rattle.calls.proofs.Histories.{begun}

@@ -1,4 +1,4 @@
-use Rattle.std.proofs.Common.{◌≡◌, ◌*◌, true, false, ◌&&◌, ◌⊎◌, length, Ok, sym, refl, ap, ◌∙◌, subst, ap₂, inl, inr, arith}
+use Rattle.std.proofs.Common.{◌*◌, length, Ok, sym, refl, ◌∙◌, ap₂}
 use Rattle.calls.specs.Reading.{painted, in_array}
 use Rattle.reading.specs.Tables.{laid_out}
 use Rattle.calls.specs.Calls.{SetDone, set_decline, array_set, data_of}

@@ -1,4 +1,4 @@
-use Rattle.std.proofs.Common.{◌≡◌, ◌+◌, ◌*◌, is_ok, sym, refl, ap, ◌∙◌}
+use Rattle.std.proofs.Common.{◌+◌, ◌*◌, is_ok, sym, refl, ap, ◌∙◌}
 use Rattle.store.specs.Meaning.{probed, read}
 use Rattle.store.proofs.Same.{answered_on}
 use Rattle.image.specs.declared.record.Record.{Record}

@@ -1,4 +1,4 @@
-use Rattle.std.proofs.Common.{◌≡◌, ◌+◌, ◌*◌, length, is_ok, sym, ap, ◌∙◌, arith}
+use Rattle.std.proofs.Common.{◌+◌, ◌*◌, length, is_ok, sym, ap, ◌∙◌, arith}
 use Rattle.store.specs.Meaning.{probed, read}
 use Rattle.store.proofs.Same.{answered_on}
 use Rattle.bank.specs.Cells.{cell}

@@ -1,4 +1,4 @@
-use Rattle.std.proofs.Common.{◌≡◌, length, sym, ap, subst}
+use Rattle.std.proofs.Common.{length, sym, ap, subst}
 use Rattle.sheets.specs.declared.asking.Asked.{Asked}
 use Rattle.sheets.specs.Asking.{Writes}
 use Rattle.sheets.proofs.asking.read.Goals as goal

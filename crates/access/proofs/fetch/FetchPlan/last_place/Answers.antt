@@ -1,4 +1,4 @@
-use Rattle.std.proofs.Common.{◌≡◌, ℕ, ◌+◌, ◌-◌, sym, refl, ap, ◌∙◌, subst, ap₂, arith}
+use Rattle.std.proofs.Common.{◌+◌, ◌-◌, sym, refl, ap, ◌∙◌, subst, arith}
 use Rattle.sheet.specs.Places.{at}
 use Rattle.array.specs.Layout.{steps, wrap, step_node, skip}
 use Rattle.array.specs.Sheet.{local_places}

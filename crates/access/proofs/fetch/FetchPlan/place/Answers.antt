@@ -1,6 +1,5 @@
-use Rattle.std.proofs.Common.{◌≡◌, ℕ, ◌+◌, ◌-◌, ◌<◌, ◌≤◌, get_or, sym, refl, ap, ◌∙◌, subst, arith}
-use Rattle.sheet.specs.Places.{at}
-use Rattle.array.specs.Layout.{steps, offset, skip}
+use Rattle.std.proofs.Common.{◌≡◌, get_or, refl, subst, arith}
+use Rattle.array.specs.Layout.{offset, skip}
 use Rattle.array.specs.Sheet.{row_places, local_places}
 use Rattle.access.specs.declared.fetch.Way.TheVariants.{OwnRow, OwnStep, LastStep}
 use Rattle.access.specs.Fetch.{step_reads}

@@ -1,11 +1,11 @@
-use Rattle.std.proofs.Common.{◌≡◌, ℕ, ◌+◌, ◌-◌, ◌<◌, ◌≤◌, sym, refl, ap, ◌∙◌, ap₂, arith}
+use Rattle.std.proofs.Common.{◌-◌, refl, ap, ◌∙◌, ap₂, arith}
 use Rattle.row.specs.Numbered.{numbered}
-use Rattle.array.specs.Layout.{steps, offset, step_node}
+use Rattle.array.specs.Layout.{offset, step_node}
 use Rattle.array.specs.Symbols.{past}
 use Rattle.array.specs.Recovered.{by_local_lem}
 use Rattle.access.specs.declared.fetch.Way.TheVariants.{OwnRow, OwnStep, LastStep}
 use Rattle.access.proofs.Offsets.{x_below}
-use Rattle.access.proofs.FetchIndex.{of_step, of_last, symbol_way}
+use Rattle.access.proofs.FetchIndex.{of_step, symbol_way}
 use Rattle.access.proofs.fetch.FetchPlan.solve.Goals as goal
 
 pub returns-in-OwnRow : goal.returns-in-OwnRow

@@ -1,4 +1,4 @@
-use Rattle.std.proofs.Common.{◌≡◌, ap, ◌∙◌, arith}
+use Rattle.std.proofs.Common.{ap, ◌∙◌, arith}
 use Rattle.access.specs.Fetch.{way_of}
 use Rattle.access.proofs.FetchIndex.{way_near, way_step, way_none, way_last}
 use Rattle.access.proofs.fetch.FetchPlan.way.Goals as goal

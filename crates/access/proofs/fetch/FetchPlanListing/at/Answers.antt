@@ -1,4 +1,4 @@
-use Rattle.std.proofs.Common.{◌≡◌, ℕ, ◌<◌, length, sym, refl, ap, ◌∙◌, arith}
+use Rattle.std.proofs.Common.{arith}
 use Rattle.sheet.specs.declared.place.Part.TheVariants.{First}
 use Rattle.access.specs.Fetch.{fetch_places, fetch_entries}
 use Rattle.access.proofs.Reached.{length_part}

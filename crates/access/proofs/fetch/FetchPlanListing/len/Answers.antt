@@ -1,5 +1,4 @@
-use Rattle.std.proofs.Common.{◌≡◌, ℕ, ◌-◌, sym, refl, ap, ◌∙◌, arith}
-use Rattle.array.specs.Layout.{steps, offset}
+use Rattle.std.proofs.Common.{◌-◌, ap, ◌∙◌}
 use Rattle.access.specs.declared.fetch.Way.TheVariants.{OwnRow, OwnStep, LastStep}
 use Rattle.access.proofs.FetchIndex.{entries_size}
 use Rattle.access.proofs.fetch.FetchPlanListing.len.Goals as goal

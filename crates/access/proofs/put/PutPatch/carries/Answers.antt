@@ -1,4 +1,4 @@
-use Rattle.std.proofs.Common.{◌≡◌, ap, ◌∙◌, arith}
+use Rattle.std.proofs.Common.{ap, ◌∙◌, arith}
 use Rattle.access.specs.Put.{carries}
 use Rattle.access.proofs.PutIndex.{carries_none, carries_one, carries_far}
 use Rattle.access.proofs.put.PutPatch.carries.Goals as goal

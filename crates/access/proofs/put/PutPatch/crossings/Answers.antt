@@ -1,4 +1,4 @@
-use Rattle.std.proofs.Common.{◌≡◌, ap, ◌∙◌, arith}
+use Rattle.std.proofs.Common.{ap, ◌∙◌, arith}
 use Rattle.access.specs.Put.{crossings}
 use Rattle.access.proofs.PutIndex.{crossings_near, crossings_step, crossings_far}
 use Rattle.access.proofs.put.PutPatch.crossings.Goals as goal

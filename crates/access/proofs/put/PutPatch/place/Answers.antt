@@ -1,4 +1,4 @@
-use Rattle.std.proofs.Common.{◌≡◌, ℕ, ◌+◌, ◌-◌, ◌<◌, ◌≤◌, sym, refl, ap, ◌∙◌, subst, arith}
+use Rattle.std.proofs.Common.{◌+◌, ◌-◌, sym, refl, ap, ◌∙◌, subst, arith}
 use Rattle.sheet.specs.Places.{at}
 use Rattle.array.specs.Layout.{offset, step_node}
 use Rattle.array.proofs.Indexed.{At}

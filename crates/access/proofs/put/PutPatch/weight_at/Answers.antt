@@ -1,4 +1,4 @@
-use Rattle.std.proofs.Common.{◌≡◌, ℕ, ◌+◌, ◌<◌, ◌≤◌, sym, refl, ap, ◌∙◌, arith}
+use Rattle.std.proofs.Common.{ap, ◌∙◌, arith}
 use Rattle.row.specs.Numbered.{numbered}
 use Rattle.row.specs.Interpolation.{basis}
 use Rattle.array.specs.Layout.{skip}

@@ -1,4 +1,4 @@
-use Rattle.std.proofs.Common.{◌≡◌, ℕ, ◌<◌, length, sym, refl, ap, ◌∙◌, arith}
+use Rattle.std.proofs.Common.{arith}
 use Rattle.sheet.specs.declared.place.Part.TheVariants.{First}
 use Rattle.array.specs.Layout.{offset}
 use Rattle.access.specs.Put.{put_places, put_entries}

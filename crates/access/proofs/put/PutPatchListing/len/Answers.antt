@@ -1,4 +1,4 @@
-use Rattle.std.proofs.Common.{◌≡◌, ℕ, ◌+◌, sym, ap, ◌∙◌, ap₂}
+use Rattle.std.proofs.Common.{◌+◌, sym, ◌∙◌, ap₂}
 use Rattle.access.proofs.Replacing.{put_size_is}
 use Rattle.access.proofs.put.PutPatchListing.len.Goals as goal
 

@@ -1,4 +1,4 @@
-use Rattle.std.proofs.Common.{◌≡◌, ◌+◌, ◌<◌, ◌≤◌, refl, ap, arith}
+use Rattle.std.proofs.Common.{◌≡◌, ◌+◌, ◌<◌, ◌≤◌, refl}
 use Rattle.row.specs.Numbered.{numbered}
 use Rattle.array.specs.Symbols.{array}
 use Rattle.repair.specs.TwoClass.{two_class_lem}

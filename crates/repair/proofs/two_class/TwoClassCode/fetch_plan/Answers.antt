@@ -1,4 +1,4 @@
-use Rattle.std.proofs.Common.{◌≡◌, ◌+◌, ◌*◌, ◌<◌, ◌≤◌, refl, ap, ◌∙◌, arith}
+use Rattle.std.proofs.Common.{◌≡◌, ◌*◌, refl, ◌∙◌}
 use Rattle.row.specs.Numbered.{numbered}
 use Rattle.row.proofs.Numbers.{numbered_apart}
 use Rattle.code.specs.Codes.{Slotted}

@@ -1,4 +1,4 @@
-use Rattle.std.proofs.Common.{◌≡◌, ◌+◌, ◌*◌, ◌<◌, ◌≤◌, refl, ap, arith}
+use Rattle.std.proofs.Common.{◌≡◌, ◌+◌, ◌*◌, ◌<◌, ◌≤◌, refl}
 use Rattle.row.specs.Numbered.{numbered}
 use Rattle.code.specs.Codes.{Slotted}
 use Rattle.array.specs.Sheet.{mend_entries, slot}

@@ -1,4 +1,4 @@
-use Rattle.std.proofs.Common.{◌≡◌, refl, ap, ◌∙◌}
+use Rattle.std.proofs.Common.{◌≡◌, refl, ◌∙◌}
 use Rattle.row.specs.Numbered.{numbered}
 use Rattle.access.specs.Put.{put_entries, put_weight}
 use Rattle.repair.specs.TwoClass.{two_class_lem}
