@@ -53,7 +53,7 @@ pub fn fetch_by<F: NumberedField, S: Store<F>, P: ReadPlan<F>>(
     row: usize,
     memory: &mut [Record<F>],
 ) -> Result<Found<F>, CallFault>
-    requires inside { (i j : ℕ) → listed (places_of (P.Listing.entries plan.now)) («at_place» i j) ≡ true → on (S.Store.meaning store.old) i j ≡ true }
+    requires inside { (i j : ℕ) → listed (places_of (P.Listing.entries plan.now)) (at_place i j) ≡ true → on (S.Store.meaning store.old) i j ≡ true }
     requires slots { Slotted (P.Listing.entries plan.now) (P.ReadPlan.slot plan.now) (length memory.old) }
     requires ready { P.Solver.ready plan.now row }
     ensures done { FetchedBy F.Field.ops.zero None (S.Store.meaning store.old) (record { entries = P.Listing.entries plan.now; symbol = P.Solver.solved plan.now }) row result (S.Store.meaning store.new) }

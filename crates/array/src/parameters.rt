@@ -1,5 +1,5 @@
 // The parameters of a code, and which of them there may be.
-ghost use Rattle.std.specs.Prelude.{◌≡◌, ◌+◌, ◌<◌, ◌≤◌, Bool, Some as is_some, None as is_none, MatchResult, nat_le};
+ghost use Rattle.std.specs.Prelude.{◌≡◌, ◌+◌, ◌<◌, ◌≤◌, Bool, MatchResult, nat_le};
 ghost use Rattle.array.specs.Checks.{declined, declined_over};
 
 use crate::fault::ParameterFault;
@@ -21,7 +21,7 @@ pub struct Parameters {
 impl Parameters {
     // The parameters, if there may be such.
     pub fn check(k: usize, a: usize, tau: usize, b: usize) -> Result<Parameters, ParameterFault>
-        ensures { MatchResult result (λ p. (declined k a tau b ≡ «is_none») × (p.k ≡ k) × (p.a ≡ a) × (p.tau ≡ tau) × (p.b ≡ b)) (λ f. declined k a tau b ≡ «is_some» f) }
+        ensures { MatchResult result (λ p. (declined k a tau b ≡ None) × (p.k ≡ k) × (p.a ≡ a) × (p.tau ≡ tau) × (p.b ≡ b)) (λ f. declined k a tau b ≡ Some f) }
     {
         if k < 3 || 32 < k {
             return Err(ParameterFault::DataNodes);
@@ -52,7 +52,7 @@ impl Parameters {
         tau: usize,
         b: usize,
     ) -> Result<Parameters, ParameterFault>
-        ensures { MatchResult result (λ p. (declined_over F.size k a tau b ≡ «is_none») × (p.k ≡ k) × (p.a ≡ a) × (p.tau ≡ tau) × (p.b ≡ b)) (λ f. declined_over F.size k a tau b ≡ «is_some» f) }
+        ensures { MatchResult result (λ p. (declined_over F.size k a tau b ≡ None) × (p.k ≡ k) × (p.a ≡ a) × (p.tau ≡ tau) × (p.b ≡ b)) (λ f. declined_over F.size k a tau b ≡ Some f) }
     {
         match Parameters::check(k, a, tau, b) {
             Err(fault) => Err(fault),

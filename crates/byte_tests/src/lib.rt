@@ -1,6 +1,6 @@
+// Worked products, inverses, numbers and a row of byte symbols.
 #![tactic(auto)]
 
-// Worked products, inverses, numbers and a row of byte symbols.
 #[cfg(test)]
 mod tests {
     use byte::Byte;

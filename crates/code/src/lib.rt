@@ -98,7 +98,7 @@ pub trait Code<F: NumberedField>: Copy {
         requires fine { (code self.now).field_size ≤ F.NumberedField.size }
         requires place { (row < (code self.now).rows) × (column < (code self.now).columns) }
         ensures entries { Self.Patch.Listing.entries result ≡ ((code self.now).put row column).entries }
-        ensures weight { (i j : ℕ) → listed (places_of (Self.Patch.Listing.entries result)) («at_place» i j) ≡ true → Self.Patch.Patch.weight result i j ≡ ((code self.now).put row column).weight i j };
+        ensures weight { (i j : ℕ) → listed (places_of (Self.Patch.Listing.entries result)) (at_place i j) ≡ true → Self.Patch.Patch.weight result i j ≡ ((code self.now).put row column).weight i j };
 
     ghost lawful: { (c : Self) → (code c).field_size ≤ F.NumberedField.size → CodeLaws F.Field.ops (code c) };
 }

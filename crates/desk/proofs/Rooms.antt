@@ -6,7 +6,7 @@ use Rattle.calls.specs.declared.call.Answer.{Answer}
 use Rattle.calls.specs.declared.call.CallFault.{CallFault}
 use Rattle.calls.specs.History.{Ask}
 use Rattle.engine.specs.declared.Engine.{Engine}
-use Rattle.repair.specs.declared.code.TwoClass.{TwoClass}
+use Rattle.repair.specs.declared.types.TwoClass.{TwoClass}
 use Rattle.desk.specs.Engines.{Serving}
 
 pub at_room : {F : Type 0} (o : Operations F) (symbol : ℕ → Option F) (size : ℕ) (engine : Engine TwoClass) (ask : Ask F) (r : Result (Answer F) CallFault) (m m' : Meaning F) (n n' : ℕ) → n ≡ n' → Serving o symbol size engine ask n r m m' → Serving o symbol size engine ask n' r m m'

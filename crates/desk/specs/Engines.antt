@@ -9,7 +9,7 @@ use Rattle.calls.specs.declared.call.CallFault.{CallFault}
 use Rattle.calls.specs.History.{Ask, Step}
 use Rattle.calls.specs.Theorem.{Extends}
 use Rattle.engine.specs.declared.Engine.{Engine}
-use Rattle.repair.specs.declared.code.TwoClass.{TwoClass}
+use Rattle.repair.specs.declared.types.TwoClass.{TwoClass}
 use Rattle.repair.specs.declared.fault.Made.{Made}
 use Rattle.repair.specs.declared.fault.MakeFault.{MakeFault}
 use Rattle.repair.specs.TwoClass.{two_class_lem}

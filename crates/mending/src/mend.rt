@@ -67,7 +67,7 @@ impl<F: NumberedField> Solver<F> for Mend {
 }
 
 impl<F: NumberedField> ReadPlan<F> for Mend {
-    ghost slot = { λ m row node. «slot_of» m.sheet.parameters m.sheet.node row node };
+    ghost slot = { λ m row node. slot_of m.sheet.parameters m.sheet.node row node };
 
     fn slot(&self, row: usize, node: usize) -> usize {
         let sheet = self.sheet;

@@ -182,7 +182,7 @@ impl NodeSheet {
 
     // The record of working memory for a place.
     pub fn slot(self, row: usize, node: usize) -> usize
-        ensures { result ≡ «slot_of» self.parameters self.node row node }
+        ensures { result ≡ slot_of self.parameters self.node row node }
     {
         let shape = self.parameters;
         if row >= shape.k || node >= shape.nodes() {

@@ -17,7 +17,7 @@ use store::Store;
 pub fn read_place<F: NumberedField, S: Store<F>>(store: &mut S, row: usize, node: usize) -> F
     requires { Readable (S.Store.meaning store.old) row node }
     ensures answer { result ≡ symbol_at F.Field.ops.zero (S.Store.meaning store.old) row node }
-    ensures leaves { S.Store.meaning store.new ≡ raised (S.Store.meaning store.old) («at_place» row node ∷ []) }
+    ensures leaves { S.Store.meaning store.new ≡ raised (S.Store.meaning store.old) (at_place row node ∷ []) }
 {
     match store.read(row, node) {
         Ok(symbol) => symbol,

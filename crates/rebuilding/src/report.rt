@@ -4,7 +4,7 @@ ghost use Rattle.std.specs.List.{range_with_len, flat_map};
 ghost use Rattle.field.specs.Decimal.{number_of};
 ghost use Rattle.field.specs.declared.decimal.Decimal.TheVariants.{Zero};
 ghost use Rattle.row_text.specs.Input.{symbols_of};
-ghost use Rattle.rebuilding.specs.Report.{spaced, spaced_number, symbol_in, row_line, skip, read_places, known as Known_of, place_line, place_lines, total_line, report as report_of, fault_line, transcript_of};
+ghost use Rattle.rebuilding.specs.Report.{spaced, spaced_number, symbol_in, row_line, skip, read_places, known as known_of, place_line, place_lines, total_line, report as report_of, fault_line, transcript_of};
 
 use field::{Decimal, NumberedField};
 use row_text::{InputFault, count_symbols, glyph, line_within, symbols_into};
@@ -137,7 +137,7 @@ fn numbers_into(j: usize, out: &mut [usize])
 
 // The symbol at number n, given the data and the row's symbol after them.
 fn known(symbols: &[Decimal], last: Decimal, n: usize) -> Decimal
-    ensures { result ≡ Known_of symbols.now last n }
+    ensures { result ≡ known_of symbols.now last n }
 {
     if n < symbols.len() { symbols[n] } else { last }
 }
@@ -145,7 +145,7 @@ fn known(symbols: &[Decimal], last: Decimal, n: usize) -> Decimal
 // Stores the symbols that are read in place of j.
 fn values_into(symbols: &[Decimal], last: Decimal, j: usize, out: &mut [Decimal])
     requires { length out.old ≤ 9 }
-    ensures { out.new ≡ map (λ i. Known_of symbols.now last (skip j i)) (range_with_len 0 (length out.old)) }
+    ensures { out.new ≡ map (λ i. known_of symbols.now last (skip j i)) (range_with_len 0 (length out.old)) }
 {
     let n = out.len();
     for i in 0..n {

@@ -6,8 +6,8 @@ use Rattle.array.specs.Sheet.{mend_entries, slot}
 use Rattle.array.specs.Recovered.{restored}
 use Rattle.access.specs.Fetch.{fetch_entries, fetch_symbol, fetch_slot}
 use Rattle.mending.specs.Weights.{MendingWeights}
-use Rattle.repair.specs.declared.code.Plan.{Plan}
-use Rattle.repair.specs.declared.code.Plan.TheVariants.{Mend, Fetch}
+use Rattle.repair.specs.declared.types.Plan.{Plan}
+use Rattle.repair.specs.declared.types.Plan.TheVariants.{Mend, Fetch}
 
 -- the places to read
 abbrev pub plan_entries : Plan → List Entry

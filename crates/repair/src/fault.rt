@@ -1,5 +1,5 @@
 // What a making answers.
-use crate::code::TwoClass;
+use crate::types::TwoClass;
 use array::ParameterFault;
 use engine::Engine;
 

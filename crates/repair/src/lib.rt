@@ -17,13 +17,13 @@ use field::{Field, NumberedField};
 use sheet::Record;
 use store::Store;
 
-mod code;
 mod fault;
 mod plans;
 mod two_class;
+mod types;
 
-pub use code::{Plan, TwoClass};
 pub use fault::{Made, MakeFault};
+pub use types::{Plan, TwoClass};
 
 // The two-class code keeps the laws of a code.
 pub fn code_stands<F: NumberedField>() -> u8

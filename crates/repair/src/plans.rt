@@ -3,7 +3,7 @@ ghost use Rattle.std.specs.Prelude.{ℕ};
 ghost use Rattle.row.specs.Numbered.{numbered as numbered_of};
 ghost use Rattle.repair.specs.Plans.{plan_entries, plan_slot, plan_symbol, PlanReady};
 
-use crate::code::Plan;
+use crate::types::Plan;
 use code::{ReadPlan, Solver};
 use field::NumberedField;
 use mending::Mend;

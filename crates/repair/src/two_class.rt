@@ -8,7 +8,7 @@ ghost use Rattle.access.proofs.Reached.{fetches};
 ghost use Rattle.access.proofs.Replacing.{puts};
 ghost use Rattle.repair.specs.Lawful.{lawful as two_class_lawful};
 
-use crate::code::{Plan, TwoClass};
+use crate::types::{Plan, TwoClass};
 use access::{FetchPlan, PutPatch};
 use code::Code;
 use field::{Field, NumberedField};

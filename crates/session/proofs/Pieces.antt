@@ -1,6 +1,6 @@
 -- Parts of which the last is open: bytes that follow go on from it. Assumes nothing.
 use Rattle.std.proofs.Common.{◌≡◌, ℕ, zero, suc, ◌<◌, true, false, cond, eqb, List, [], ◌∷◌, ◌++◌, map, length, take, sym, refl, ap, ◌∙◌, arith}
-use Rattle.std.specs.List.{AllByRecursion as All}
+use Rattle.std.specs.List.{AllByRecursion}
 use Rattle.std.proofs.lemmas.List.{length-append, length-take, get_or-take}
 use Rattle.std.proofs.lemmas.Bool.{cond-false, ne_eqb}
 use Rattle.text.specs.Lines.{ended}
@@ -89,7 +89,7 @@ free_take c n l h k lt e =
     let long = length-take n l in
     h k (omega arith) (sym (get_or-take n l k 0 (omega arith)) ∙ e)
 
-final_all : (P : List ℕ → Type 0) (ps : List (List ℕ)) → 0 < length ps → All P ps → P (final ps)
+final_all : (P : List ℕ → Type 0) (ps : List (List ℕ)) → 0 < length ps → AllByRecursion P ps → P (final ps)
 final_all P [] h all = absurd (omega arith)
 final_all P (p ∷ []) h all = all.0
 final_all P (p ∷ q ∷ ps) h all = final_all P (q ∷ ps) (omega arith) all.1

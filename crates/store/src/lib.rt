@@ -2,7 +2,7 @@
 #![tactic(auto)]
 
 ghost use Rattle.std.specs.Prelude.{◌≡◌, true, is_err};
-ghost use Rattle.store.specs.Meaning.{Meaning, Sound, «number_of», judged as judges, probed, metered, placed, summed, read as reads, written, refreshed, cleared};
+ghost use Rattle.store.specs.Meaning.{Meaning, Sound, number_of, judged as judges, probed, metered, placed, summed, read as reads, written, refreshed, cleared};
 ghost use Rattle.store.specs.Fit.{Checked, unfit_number};
 
 use field::NumberedField;
@@ -48,7 +48,7 @@ impl Unfit {
 impl Cause {
     // The number of the decline.
     pub fn number(self) -> u8
-        ensures { result ≡ «number_of» self }
+        ensures { result ≡ number_of self }
     {
         match self {
             Cause::OffStore => 1,

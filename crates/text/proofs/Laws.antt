@@ -1,6 +1,6 @@
 -- The laws of parts, lines and words. Assumes nothing.
 use Rattle.std.proofs.Common.{◌≡◌, ℕ, zero, suc, ◌+◌, ◌<◌, eqb, ◌⊎◌, List, [], ◌∷◌, ◌++◌, length, take, sym, refl, ap, ◌∙◌, subst, inl, inr, ⊎_elim, append_assoc, append-nil, arith}
-use Rattle.std.specs.List.{flat_map, AllByRecursion as All}
+use Rattle.std.specs.List.{flat_map, AllByRecursion}
 use Rattle.std.proofs.ByRecursion.{All-push}
 use Rattle.std.proofs.lemmas.List.{append_cancel_right, length-append, length-map}
 use Rattle.std.proofs.lemmas.Bool.{cond_both, cond-true, cond-false, eqb-true, eqb-false, eq-eqb, ne_eqb}
@@ -33,14 +33,14 @@ free_cons c b p other h (suc k) l e = h k (omega arith) e
 pub free_none : (c : ℕ) → Free c []
 free_none c k l e = absurd (omega arith)
 
-free_onto : (c b : ℕ) (ps : List (List ℕ)) → (b ≡ c → ⊥) → All (Free c) ps → All (Free c) (onto b ps)
+free_onto : (c b : ℕ) (ps : List (List ℕ)) → (b ≡ c → ⊥) → AllByRecursion (Free c) ps → AllByRecursion (Free c) (onto b ps)
 free_onto c b [] other h = (free_cons c b [] other (free_none c), tt)
 free_onto c b (p ∷ ps) other h = (free_cons c b p other h.0, h.1)
 
-pub free : (c : ℕ) (bs : List ℕ) → All (Free c) (parts c bs)
+pub free : (c : ℕ) (bs : List ℕ) → AllByRecursion (Free c) (parts c bs)
 free c [] = (free_none c, tt)
 free c (b ∷ bs) =
-    cond_both (eqb b c) ([] ∷ parts c bs) (onto b (parts c bs)) (λ ps. All (Free c) ps)
+    cond_both (eqb b c) ([] ∷ parts c bs) (onto b (parts c bs)) (λ ps. AllByRecursion (Free c) ps)
     (λ _. (free_none c, free c bs))
     (λ t. free_onto c b (parts c bs) (eqb-false b c t) (free c bs))
 
@@ -56,13 +56,13 @@ parts_one c [] h = refl
 parts_one c (b ∷ p) h = cond-false (eqb b c) _ _ (ne_eqb b c (h 0 (omega arith))) ∙ ap (onto b) (parts_one c p (λ k l. h (suc k) (omega arith)))
 
 -- no other parts, joined, are the bytes
-pub only : (c : ℕ) (ps : List (List ℕ)) → 0 < length ps → All (Free c) ps → parts c (joined_by c ps) ≡ ps
+pub only : (c : ℕ) (ps : List (List ℕ)) → 0 < length ps → AllByRecursion (Free c) ps → parts c (joined_by c ps) ≡ ps
 only c [] some h = absurd (omega arith)
 only c (p ∷ []) some h = parts_one c p h.0
 only c (p ∷ q ∷ ps) some h = parts_after c p (joined_by c (q ∷ ps)) h.0 ∙ ap (λ l. p ∷ l) (only c (q ∷ ps) (omega arith) h.1)
 
 -- the lines of an input
-all_ended : (P : List ℕ → Type 0) (ps : List (List ℕ)) → All P ps → All P (ended ps)
+all_ended : (P : List ℕ → Type 0) (ps : List (List ℕ)) → AllByRecursion P ps → AllByRecursion P (ended ps)
 all_ended P [] h = h
 all_ended P ([] ∷ []) h = tt
 all_ended P ((b ∷ p) ∷ []) h = h
