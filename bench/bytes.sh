@@ -2,7 +2,7 @@
 # Times proved byte products and the row rule of k = 32 over bytes against plain Rust with the same tables, in one run.
 set -eu
 cd "$(dirname "$0")/.."
-rt staticlib byte_bench > /dev/null
+(cd crates/byte_bench && rt lib) > /dev/null
 kit=$(dirname "$(dirname "$(rt doc)")")
 work=$(mktemp -d)
 trap 'rm -rf "$work"' EXIT
