@@ -3,9 +3,8 @@
 set -eu
 cd "$(dirname "$0")/.."
 (cd crates/byte_bench && rt lib) > /dev/null
-kit=$(dirname "$(dirname "$(rt doc)")")
 work=$(mktemp -d)
 trap 'rm -rf "$work"' EXIT
 rustc --edition 2024 -O -C opt-level=3 -o "$work/bytes" bench/bytes/main.rs \
-    -L target/staticlib -l static=byte_bench -L "$kit/lib" -l static=rattle_c
+    -L crates/byte_bench/out -l static=byte_bench
 "$work/bytes"
