@@ -1,4 +1,4 @@
-// Byte symbols and the row rule over them, for a benchmark to call from outside.
+// Byte symbols and the row rule over them, for a benchmark.
 #![tactic(auto)]
 
 ghost use Rattle.std.specs.Prelude.{◌≡◌, length};
@@ -10,8 +10,7 @@ use byte::Byte;
 use field::Field;
 
 // The value at `x` of the polynomial with these coefficients, the highest first: each product waits for the one before.
-#[unsafe(no_mangle)]
-pub extern "C" fn byte_value_at(coefficients: &[Byte], x: Byte) -> Byte
+pub fn byte_value_at(coefficients: &[Byte], x: Byte) -> Byte
     ensures { result ≡ value_of (length coefficients.now) coefficients.now x }
 {
     let mut total = Byte::new(0);
@@ -22,16 +21,14 @@ pub extern "C" fn byte_value_at(coefficients: &[Byte], x: Byte) -> Byte
 }
 
 // The sum of the values, each times its weight: the products do not wait for each other.
-#[unsafe(no_mangle)]
-pub extern "C" fn byte_weigh(weights: &[Byte], values: &[Byte]) -> Byte
+pub fn byte_weigh(weights: &[Byte], values: &[Byte]) -> Byte
     ensures { result ≡ weighed byte_operations weights.now values.now }
 {
     row::weigh(weights, values)
 }
 
 // What each data symbol of a row counts at number m.
-#[unsafe(no_mangle)]
-pub extern "C" fn byte_weights(m: usize, out: &mut [Byte])
+pub fn byte_weights(m: usize, out: &mut [Byte])
     ensures { out.new ≡ data_weights byte_operations byte_symbol (length out.old) m }
 {
     row::data_weights_into(m, out);
