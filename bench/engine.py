@@ -4,7 +4,7 @@
 Each file makes a byte engine with k = 32, a = 4, tau = 2, b = 4 on one of the two stores, sets it, and repeats one call.
 What making, setting and refreshing alone cost is timed too and taken off. The two programs take turns, the least of three
 runs counts, and both must answer the same. Run from the repository root after the programs are built (.ci/run, or
-`rt check cards` and `cargo build --release` of the model with CARGO_TARGET_DIR=target/model)."""
+`tools/programs cards` and `cargo build --release` of the model with CARGO_TARGET_DIR=target/model)."""
 import random
 import subprocess
 import sys

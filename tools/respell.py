@@ -28,6 +28,8 @@ SPAN = re.compile(r"`[^`\n]*`")
 MADE = re.compile(
     r'(?<![^\s(){};,@"«»])(?:c|w|l|g|goal)[0-9₀-₉\']*\.(?:(?:args|initial|fn|new|auto|ranges)\.)?' + NAME
 )
+# The path of a `use` line, and the name of a module: no term reads them.
+MODULE = re.compile(r"\buse [^\s;{]*\.(?=\{)|\buse [^\s;{]* as\b|\bmod \w+;")
 # The library's names that two lemmas were named for are spelled anew there.
 WORDS = {"getD": "get_or", "putMid": "put_mid", "A": "a", "B": "b", "C": "c", "D": "d", "Numbered": "numbered"}
 
@@ -88,6 +90,7 @@ def main():
         code = (QUIET if path in antt else RUST_QUIET).sub(" ", texts[path])
         if path in antt:
             code = MADE.sub(" ", code)
+        code = MODULE.sub(" ", code)
         words = set(WORD.findall(code))
         plain = set(WORD.findall(re.sub(r"\w+\s*(?=\()|(?<=[.:])\w+", " ", code))) if path in rust else words
         for name in words & names:

@@ -9,7 +9,7 @@ use Rattle.array.specs.declared.parameters.Parameters.{Parameters}
 use Rattle.array.specs.Layout.{steps, reach, wrap, offset, step_node, skip}
 use Rattle.array.specs.Symbols.{sum_but, past, array}
 use Rattle.array.specs.Sheet.{row_places, local_places}
-use Rattle.array.specs.Recovered.{around, by_local_lem}
+use Rattle.array.specs.Recovered.{around, by_local}
 use Rattle.array.proofs.Members.{In, in_map, in_counting}
 use Rattle.array.proofs.Wraps.{wrapped}
 use Rattle.array.proofs.Parts.{in_row_places, in_local_node, in_local_step, in_local_past}
@@ -56,8 +56,8 @@ module _ {F : Type 0} {o : Operations F} (laws : FieldLaws o) {size : ℕ} {symb
         sum_to_but laws (p.k - x) (reach p - 1) (λ m. d i (wrap p (i + m))) (omega arith) (omega arith)
         ∙ ap (λ t. sum_but o (p.k - x) (reach p - 1) (λ m. d i (wrap p (i + m))) ⊕ d i t) (node_past p i j hi hj x is)
 
-    by_last : by_local_lem o p f (p.k - x) i ≡ d i j
-    unfolding by_local_lem
+    by_last : by_local o p f (p.k - x) i ≡ d i j
+    unfolding by_local
     by_last =
         let A = d (wrap p (i + steps p)) i in
         let B = sum_but o (p.k - x) (reach p - 1) (λ m. d i (wrap p (i + m))) in

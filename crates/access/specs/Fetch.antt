@@ -10,7 +10,7 @@ use Rattle.array.specs.declared.parameters.Parameters.{Parameters}
 use Rattle.array.specs.Layout.{steps, wrap, offset, step_node}
 use Rattle.array.specs.Symbols.{past}
 use Rattle.array.specs.Sheet.{row_places, local_places}
-use Rattle.array.specs.Recovered.{around, by_local_lem}
+use Rattle.array.specs.Recovered.{around, by_local}
 use Rattle.access.specs.declared.fetch.Way.{Way}
 use Rattle.access.specs.declared.fetch.Way.TheVariants.{OwnRow, OwnStep, LastStep}
 
@@ -47,7 +47,7 @@ fetch_size p x = cond (nat_lt p.tau x && nat_lt 0 p.b) (p.k - lesser x (steps p)
 abbrev pub solved_by : {F : Type 0} → Operations F → (ℕ → F) → Parameters → (ℕ → ℕ → F) → ℕ → ℕ → ℕ → Way → F
 solved_by o symbol p f i j x OwnRow = around o symbol p f j i j
 solved_by o symbol p f i j x OwnStep = o.difference (f j (step_node p x)) (past o p f j x)
-solved_by o symbol p f i j x LastStep = by_local_lem o p f (p.k - x) i
+solved_by o symbol p f i j x LastStep = by_local o p f (p.k - x) i
 
 -- THE FETCHED SYMBOL in row i of node j, from the symbols f
 unfoldable pub fetch_symbol : {F : Type 0} → Operations F → (ℕ → F) → Parameters → (ℕ → ℕ → F) → ℕ → ℕ → F

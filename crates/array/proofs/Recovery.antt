@@ -10,7 +10,7 @@ use Rattle.array.specs.Layout.{steps, reach, wrap, offset, first_step, step_node
 use Rattle.array.specs.Symbols.{sum_to, sum_but, row_symbol, past, array}
 use Rattle.sheet.specs.Places.{at, Agree}
 use Rattle.array.specs.Sheet.{row_places, local_places, listing, sheet}
-use Rattle.array.specs.Recovered.{around, by_local_lem, recovered_at, recovered}
+use Rattle.array.specs.Recovered.{around, by_local, recovered_at, recovered}
 use Rattle.array.specs.Theorems.{Recovers}
 use Rattle.array.proofs.Members.{In, listed_in, in_distinct}
 use Rattle.array.proofs.Wraps.{wrapped, wrapped_is, offset_below, offset_row, offset_node, skip_cases, skip_injective}
@@ -195,8 +195,8 @@ module _ {F : Type 0} {o : Operations F} (laws : FieldLaws o) where
                   sum_to_but (s.k - x) (reach s - 1) (λ m. d i (wrap s (i + m))) (omega arith) (omega arith)
                   ∙ ap (λ t. sum_but o (s.k - x) (reach s - 1) (λ m. d i (wrap s (i + m))) ⊕ d i t) (ap (λ t. wrap s (i + (s.k - t))) (sym e) ∙ offset_node s i j hi hj)
 
-              pub local_is : by_local_lem o s v (s.k - x) i ≡ d i j
-              unfolding by_local_lem
+              pub local_is : by_local o s v (s.k - x) i ≡ d i j
+              unfolding by_local
               local_is =
                   let A = d (wrap s (i + steps s)) i in
                   let B = sum_but o (s.k - x) (reach s - 1) (λ m. d i (wrap s (i + m))) in

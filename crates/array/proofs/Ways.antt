@@ -5,7 +5,7 @@ use Rattle.field.specs.Laws.{Operations}
 use Rattle.array.specs.declared.parameters.Parameters.{Parameters}
 use Rattle.array.specs.Layout.{steps, offset, step_node}
 use Rattle.array.specs.Symbols.{past}
-use Rattle.array.specs.Recovered.{around, by_local_lem, recovered_at, recovered}
+use Rattle.array.specs.Recovered.{around, by_local, recovered_at, recovered}
 
 module _ {F : Type 0} (o : Operations F) (symbol : ℕ → F) (s : Parameters) (v : ℕ → ℕ → F) (j i x : ℕ) (is : x ≡ offset s i j) where
   at_offset : recovered_at o symbol s v j i x ≡ recovered o symbol s v j i
@@ -33,7 +33,7 @@ module _ {F : Type 0} (o : Operations F) (symbol : ℕ → F) (s : Parameters) (
       sym (cond-false (eqb x 0) _ _ (ne_eqb x 0 (λ e. omega arith)) ∙ cond-false (leb x s.tau) _ _ (lt-leb x s.tau (omega arith))
       ∙ cond-false (leb x (steps s)) _ _ (lt-leb x (steps s) a) ∙ cond-true (eqb s.b 0) _ _ (eq-eqb s.b 0 z)) ∙ at_offset
 
-  pub way_local : steps s < x → 1 ≤ s.b → by_local_lem o s v (s.k - x) i ≡ recovered o symbol s v j i
+  pub way_local : steps s < x → 1 ≤ s.b → by_local o s v (s.k - x) i ≡ recovered o symbol s v j i
   unfolding recovered_at
   way_local a z =
       sym (cond-false (eqb x 0) _ _ (ne_eqb x 0 (λ e. omega arith)) ∙ cond-false (leb x s.tau) _ _ (lt-leb x s.tau (omega arith))

@@ -11,8 +11,8 @@ unfoldable pub around : {F : Type 0} → Operations F → (ℕ → F) → Parame
 around o symbol s v j i m = interpolate o (λ l. symbol (skip j l)) s.k (λ l. v i (skip j l)) (symbol m)
 
 -- by the last Class B node: the symbol at m = x places past the diagonal in row i
-unfoldable pub by_local_lem : {F : Type 0} → Operations F → Parameters → (ℕ → ℕ → F) → ℕ → ℕ → F
-by_local_lem o s v x i =
+unfoldable pub by_local : {F : Type 0} → Operations F → Parameters → (ℕ → ℕ → F) → ℕ → ℕ → F
+by_local o s v x i =
     o.difference (o.difference (v i (step_node s (steps s))) (v (wrap s (i + steps s)) i))
     (sum_but o x (reach s - 1) (λ m. v i (wrap s (i + m))))
 
@@ -23,7 +23,7 @@ recovered_at o symbol s v j i x =
     (cond (nat_le x s.tau) (o.difference (v j (step_node s x)) (around o symbol s v j j (step_node s x)))
     (cond (nat_le x (steps s)) (o.difference (v j (step_node s x)) (past o s v j x))
     (cond (s.b == 0) (around o symbol s v j i j)
-    (by_local_lem o s v (s.k - x) i))))
+    (by_local o s v (s.k - x) i))))
 
 unfoldable pub recovered : {F : Type 0} → Operations F → (ℕ → F) → Parameters → (ℕ → ℕ → F) → ℕ → ℕ → F
 recovered o symbol s v j i = recovered_at o symbol s v j i (offset s i j)

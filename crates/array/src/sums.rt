@@ -4,7 +4,7 @@ ghost use Rattle.row.specs.Interpolation.{others, basis};
 ghost use Rattle.row.specs.Numbered.{numbered as numbered_of};
 ghost use Rattle.array.specs.Layout.{skip as skip_of};
 ghost use Rattle.array.specs.Symbols.{past};
-ghost use Rattle.array.specs.Recovered.{around, by_local_lem};
+ghost use Rattle.array.specs.Recovered.{around, by_local};
 
 use crate::layout::skip;
 use crate::parameters::Parameters;
@@ -72,7 +72,7 @@ pub fn past<F: Field, T: Table<F>>(shape: Parameters, table: &T, row: usize, t: 
 // The symbol x places past the diagonal in a row, by the last local node.
 pub fn by_local<F: Field, T: Table<F>>(shape: Parameters, table: &T, x: usize, row: usize) -> F
     requires { row < shape.k }
-    ensures { result ≡ by_local_lem F.ops shape (T.Table.held table.now) x row }
+    ensures { result ≡ by_local F.ops shape (T.Table.held table.now) x row }
 {
     let mut rest = F::zero();
     for m in 1..shape.reach() {

@@ -12,12 +12,12 @@ use Rattle.engine.specs.declared.Engine.{Engine}
 use Rattle.repair.specs.declared.types.TwoClass.{TwoClass}
 use Rattle.repair.specs.declared.fault.Made.{Made}
 use Rattle.repair.specs.declared.fault.MakeFault.{MakeFault}
-use Rattle.repair.specs.TwoClass.{two_class_lem}
+use Rattle.repair.specs.TwoClass.{two_class}
 use Rattle.repair.specs.Promise.{MakeDone, Sized}
 
 -- the code of an engine, over a field with these operations and these symbols by number
 abbrev pub code_of : {F : Type 0} → Operations F → (ℕ → Option F) → Engine TwoClass → CodeMeaning F
-code_of o symbol engine = two_class_lem o (numbered o.zero symbol) engine.code.parameters
+code_of o symbol engine = two_class o (numbered o.zero symbol) engine.code.parameters
 
 -- a making with k, a, τ, b on a store that meant m answered r, and the store means m'
 abbrev pub Making : {F : Type 0} → Operations F → (ℕ → Option F) → ℕ → ℕ → ℕ → ℕ → ℕ → Meaning F → Result Made MakeFault → Meaning F → Type 0

@@ -5,7 +5,7 @@ ghost use Rattle.std.specs.Prelude.{OnOk};
 ghost use Rattle.field.specs.Decimal.{symbol_of, decimal as decimal_operations};
 ghost use Rattle.row.specs.Numbered.{numbered as numbered_of};
 ghost use Rattle.kept.specs.Stores.{bank_means};
-ghost use Rattle.repair.specs.TwoClass.{two_class_lem};
+ghost use Rattle.repair.specs.TwoClass.{two_class};
 ghost use Rattle.tour.specs.Tour.{Reached};
 
 use array::Parameters;
@@ -24,7 +24,7 @@ pub fn rehearse_decimal(
     symbols: &[Decimal],
     memory: &mut [Record<Decimal>],
 ) -> Result<Result<Answer<Decimal>, CallFault>, MakeFault>
-    ensures { OnOk result (Reached decimal_operations 11 (two_class_lem decimal_operations (numbered_of decimal_operations.zero symbol_of) parameters) (bank_means store.old) (bank_means store.new)) }
+    ensures { OnOk result (Reached decimal_operations 11 (two_class decimal_operations (numbered_of decimal_operations.zero symbol_of) parameters) (bank_means store.old) (bank_means store.new)) }
 {
     rehearse(TwoClass { parameters }, store, symbols, memory)
 }

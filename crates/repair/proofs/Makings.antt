@@ -13,7 +13,7 @@ use Rattle.calls.specs.Reading.{blank_below}
 use Rattle.calls.specs.Calls.{fits}
 use Rattle.engine.specs.Making.{make_answer, make_leaves}
 use Rattle.engine.specs.declared.make.MakeFault as engine_fault
-use Rattle.repair.specs.TwoClass.{two_class_lem}
+use Rattle.repair.specs.TwoClass.{two_class}
 use Rattle.repair.specs.declared.fault.MakeFault.TheVariants.{Unfit, SmallStore}
 use Rattle.repair.specs.Promise.{make_declined, store_declined, unfit_or}
 
@@ -59,22 +59,22 @@ large size k a tau b e = go (declined k a tau b) e
     go (Some x) q = let z : ◌≡◌ {A = ℕ} 0 1 = cc in absurd (omega arith)
 
 module _ {F : Type 0} (o : Operations F) (symbol : ℕ → F) (size k a tau b : ℕ) (m : Meaning F) (p : Parameters) (ek : p.k ≡ k) (ea : p.a ≡ a) (eb : p.b ≡ b) (fit : declined_over size k a tau b ≡ None) where
-  room : fits (two_class_lem o symbol p) m ≡ (leb k m.rows && leb (k + a + b) m.nodes)
-  unfolding fits two_class_lem
+  room : fits (two_class o symbol p) m ≡ (leb k m.rows && leb (k + a + b) m.nodes)
+  unfolding fits two_class
   room = let e : nodes p ≡ k + a + b = omega arith in ap (λ x. leb x m.rows && leb (nodes p) m.nodes) ek ∙ ap (λ x. leb k m.rows && leb x m.nodes) e
 
-  pub accepted : fits (two_class_lem o symbol p) m ≡ true → make_declined size k a tau b m ≡ None
+  pub accepted : fits (two_class o symbol p) m ≡ true → make_declined size k a tau b m ≡ None
   unfolding make_declined
   accepted f = ap (λ d. unfit_or d (store_declined k a b m)) fit ∙ cond-true (leb k m.rows && leb (k + a + b) m.nodes) None (Some SmallStore) (sym room ∙ f)
 
-  pub small : fits (two_class_lem o symbol p) m ≡ false → make_declined size k a tau b m ≡ Some SmallStore
+  pub small : fits (two_class o symbol p) m ≡ false → make_declined size k a tau b m ≡ Some SmallStore
   unfolding make_declined
   small f = ap (λ d. unfit_or d (store_declined k a b m)) fit ∙ cond-false (leb k m.rows && leb (k + a + b) m.nodes) None (Some SmallStore) (sym room ∙ f)
 
-  pub blanked : blank_below (two_class_lem o symbol p).nodes m ≡ blank_below (k + a + b) m
-  unfolding two_class_lem
+  pub blanked : blank_below (two_class o symbol p).nodes m ≡ blank_below (k + a + b) m
+  unfolding two_class
   blanked = let e : nodes p ≡ k + a + b = omega arith in ap (λ n. blank_below n m) e
 
-  pub wide_field : (two_class_lem o symbol p).field_size ≤ size
-  unfolding two_class_lem
+  pub wide_field : (two_class o symbol p).field_size ≤ size
+  unfolding two_class
   wide_field = omega (arith, large size k a tau b fit)

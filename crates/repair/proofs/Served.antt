@@ -13,7 +13,7 @@ use Rattle.calls.specs.declared.call.Answer.TheVariants.{Counted}
 use Rattle.calls.specs.Calls.{MendDone, mend_decline, mend_recipe, mend_sheet, mended}
 use Rattle.calls.specs.History.{Ask, set, put, fetch, lose, refresh, mend, Step}
 use Rattle.calls.proofs.Outcomes.{Outcome, sheet_outcome}
-use Rattle.repair.specs.TwoClass.{two_class_lem}
+use Rattle.repair.specs.TwoClass.{two_class}
 use Rattle.repair.specs.Promise.{Sized, Sheets}
 
 -- an accepted mend answers the length of its sheet
@@ -28,17 +28,17 @@ mend_counted {F} o size code node n r m m' s a q =
     go (inr t) = let e = t.answer in let z : ◌≡◌ {A = ℕ} 0 1 = cc in absurd (omega arith)
 
 module _ {F : Type 0} (o : Operations F) (symbol : ℕ → F) (p : Parameters) where
-  same_sheet : (m : Meaning F) (node : ℕ) → mend_sheet (two_class_lem o symbol p) m node ≡ node_sheet p node
-  unfolding mend_sheet mend_recipe two_class_lem node_sheet
+  same_sheet : (m : Meaning F) (node : ℕ) → mend_sheet (two_class o symbol p) m node ≡ node_sheet p node
+  unfolding mend_sheet mend_recipe two_class node_sheet
   same_sheet m node = refl
 
   pub sheets : Sheets o symbol p
   sheets = record { same = same_sheet; size = λ m node l b. ap length (same_sheet m node) ∙ sized p b node l }
 
-  pub sized_step : (size : ℕ) (a : Ask F) (n : ℕ) (r : Result (Answer F) CallFault) (m m' : Meaning F) → Step o size (two_class_lem o symbol p) a n r m m' → Sized p a r
+  pub sized_step : (size : ℕ) (a : Ask F) (n : ℕ) (r : Result (Answer F) CallFault) (m m' : Meaning F) → Step o size (two_class o symbol p) a n r m m' → Sized p a r
   sized_step size (set xs) n r m m' s = tt
   sized_step size (put row column x) n r m m' s = tt
   sized_step size (fetch row column) n r m m' s = tt
   sized_step size (lose node) n r m m' s = tt
   sized_step size (refresh node) n r m m' s = tt
-  sized_step size (mend node) n r m m' s = λ l b a q. mend_counted o size (two_class_lem o symbol p) node n r m m' s a q ∙ ap Counted (sheets.size m node l b)
+  sized_step size (mend node) n r m m' s = λ l b a q. mend_counted o size (two_class o symbol p) node n r m m' s a q ∙ ap Counted (sheets.size m node l b)

@@ -12,7 +12,7 @@ use Rattle.array.specs.Symbols.{array}
 use Rattle.array.specs.Sheet.{mend_entries, node_sheet}
 use Rattle.array.specs.Theorems.{Restores, AllStand}
 use Rattle.access.specs.Theorems.{Fetches, Puts}
-use Rattle.repair.specs.TwoClass.{two_class_lem}
+use Rattle.repair.specs.TwoClass.{two_class}
 
 module _ {F : Type 0} (o : Operations F) (symbol : ℕ → F) (size : ℕ) (restores : Restores o symbol size) (stand : AllStand) (fetches : Fetches o symbol size) (puts : Puts o symbol) (p : Parameters) (large : p.k + p.a ≤ size) where
   -- a place of a listing is on its sheet
@@ -28,8 +28,8 @@ module _ {F : Type 0} (o : Operations F) (symbol : ℕ → F) (size : ℕ) (rest
   unfolding array
   systematic d i j l = cond-true (nat_lt j p.k) (d i j) _ (lt-ltb j p.k l)
 
-  pub lawful : CodeLaws o (two_class_lem o symbol p)
-  unfolding two_class_lem
+  pub lawful : CodeLaws o (two_class o symbol p)
+  unfolding two_class
   lawful = record {
     some_row = omega (arith, p.wide.0);
     some_column = omega (arith, p.wide.0);

@@ -14,7 +14,7 @@ use Rattle.calls.specs.Reading.{blank_below}
 use Rattle.calls.specs.Calls.{mend_sheet}
 use Rattle.calls.specs.History.{Ask, set, put, fetch, lose, refresh, mend}
 use Rattle.calls.specs.Theorem.{Begun}
-use Rattle.repair.specs.TwoClass.{two_class_lem}
+use Rattle.repair.specs.TwoClass.{two_class}
 use Rattle.repair.specs.declared.fault.MakeFault.{MakeFault}
 use Rattle.repair.specs.declared.fault.MakeFault.TheVariants.{Unfit, SmallStore}
 use Rattle.repair.specs.declared.fault.Made.{Made}
@@ -45,7 +45,7 @@ pub record Accepted {F : Type 0} (o : Operations F) (symbol : ℕ → F) (size k
   pub piggybacks : made.engine.code.parameters.tau ≡ tau
   pub class_b : made.engine.code.parameters.b ≡ b
   pub leaves : m' ≡ blank_below (k + a + b) m
-  pub begun : Begun o size (two_class_lem o symbol made.engine.code.parameters) m m'
+  pub begun : Begun o size (two_class o symbol made.engine.code.parameters) m m'
 
 abbrev pub MakeDone : {F : Type 0} → Operations F → (ℕ → F) → ℕ → ℕ → ℕ → ℕ → ℕ → Meaning F → Result Made MakeFault → Meaning F → Type 0
 MakeDone o symbol size k a tau b m (Ok made) m' = Accepted o symbol size k a tau b m made m'
@@ -62,5 +62,5 @@ Sized p (refresh node) r = Unit {0}
 
 -- the read sheet of a node is the array's, whatever the store holds, and with b ≥ 1 a data node's has as many places as stated
 pub record Sheets {F : Type 0} (o : Operations F) (symbol : ℕ → F) (p : Parameters) : Type 0 where
-  pub same : (m : Meaning F) (node : ℕ) → mend_sheet (two_class_lem o symbol p) m node ≡ node_sheet p node
-  pub size : (m : Meaning F) (node : ℕ) → node < p.k → 1 ≤ p.b → length (mend_sheet (two_class_lem o symbol p) m node) ≡ sheet_size p
+  pub same : (m : Meaning F) (node : ℕ) → mend_sheet (two_class o symbol p) m node ≡ node_sheet p node
+  pub size : (m : Meaning F) (node : ℕ) → node < p.k → 1 ≤ p.b → length (mend_sheet (two_class o symbol p) m node) ≡ sheet_size p

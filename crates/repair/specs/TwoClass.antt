@@ -12,8 +12,8 @@ use Rattle.access.specs.Put.{put_entries, put_weight}
 
 -- k rows, k data nodes, n nodes over a field of at least k + a symbols; `symbol` gives the field's symbols by number.
 -- Fetch and mend need k k records of working memory. No sheet depends on which places are blank.
-unfoldable pub two_class_lem : {F : Type 0} → Operations F → (ℕ → F) → Parameters → CodeMeaning F
-two_class_lem o symbol p = record {
+unfoldable pub two_class : {F : Type 0} → Operations F → (ℕ → F) → Parameters → CodeMeaning F
+two_class o symbol p = record {
   rows = p.k;
   columns = p.k;
   nodes = nodes p;

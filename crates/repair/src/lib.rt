@@ -7,7 +7,7 @@ ghost use Rattle.array.specs.declared.parameters.Parameters.{Parameters as Shape
 ghost use Rattle.code.specs.Codes.{CodeLaws};
 ghost use Rattle.calls.specs.History.{asked, Step, served_memory};
 ghost use Rattle.calls.specs.Theorem.{Extends};
-ghost use Rattle.repair.specs.TwoClass.{two_class_lem};
+ghost use Rattle.repair.specs.TwoClass.{two_class};
 ghost use Rattle.repair.specs.Promise.{make_number, MakeDone, Sized, Sheets};
 
 use array::Parameters;
@@ -27,7 +27,7 @@ pub use types::{Plan, TwoClass};
 
 // The two-class code keeps the laws of a code.
 pub fn code_stands<F: NumberedField>() -> u8
-    ensures { (p : Shape) → p.k + p.a ≤ F.size → CodeLaws F.Field.ops (two_class_lem F.Field.ops (numbered_of F.Field.ops.zero F.symbol) p) }
+    ensures { (p : Shape) → p.k + p.a ≤ F.size → CodeLaws F.Field.ops (two_class F.Field.ops (numbered_of F.Field.ops.zero F.symbol) p) }
 {
     0
 }
@@ -74,8 +74,8 @@ pub fn serve<F: NumberedField, S: Store<F>>(
     call: Call<'_, F>,
     memory: &mut [Record<F>],
 ) -> Result<Answer<F>, CallFault>
-    ensures step { Step F.Field.ops F.NumberedField.size (two_class_lem F.Field.ops (numbered_of F.Field.ops.zero F.NumberedField.symbol) engine.now.code.parameters) (asked call.entry) (length memory.old) result (S.Store.meaning store.old) (S.Store.meaning store.new) }
-    ensures history { Extends F.Field.ops F.NumberedField.size (two_class_lem F.Field.ops (numbered_of F.Field.ops.zero F.NumberedField.symbol) engine.now.code.parameters) (record { ask = asked call.entry; room = length memory.old; answer = result }) (S.Store.meaning store.old) (S.Store.meaning store.new) }
+    ensures step { Step F.Field.ops F.NumberedField.size (two_class F.Field.ops (numbered_of F.Field.ops.zero F.NumberedField.symbol) engine.now.code.parameters) (asked call.entry) (length memory.old) result (S.Store.meaning store.old) (S.Store.meaning store.new) }
+    ensures history { Extends F.Field.ops F.NumberedField.size (two_class F.Field.ops (numbered_of F.Field.ops.zero F.NumberedField.symbol) engine.now.code.parameters) (record { ask = asked call.entry; room = length memory.old; answer = result }) (S.Store.meaning store.old) (S.Store.meaning store.new) }
     ensures sized { Sized engine.now.code.parameters (asked call.entry) result }
     ensures sheets { Sheets F.Field.ops (numbered_of F.Field.ops.zero F.NumberedField.symbol) engine.now.code.parameters }
     ensures memory { memory.new ≡ served_memory F.Field.ops.zero (asked call.entry) result memory.old }

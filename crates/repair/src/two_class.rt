@@ -1,6 +1,6 @@
 // The two-class code behind the engine's interface.
 ghost use Rattle.row.specs.Numbered.{numbered as numbered_of, numbered};
-ghost use Rattle.repair.specs.TwoClass.{two_class_lem};
+ghost use Rattle.repair.specs.TwoClass.{two_class};
 ghost use Rattle.row.proofs.Numbers.{numbered_apart};
 ghost use Rattle.array.proofs.Restoring.{restores};
 ghost use Rattle.array.proofs.Standing.{stands};
@@ -22,9 +22,9 @@ impl<F: NumberedField> Code<F> for TwoClass {
 
     type Patch = PutPatch;
 
-    ghost code = { λ c. two_class_lem F.Field.ops (numbered_of F.Field.ops.zero F.NumberedField.symbol) c.parameters };
+    ghost code = { λ c. two_class F.Field.ops (numbered_of F.Field.ops.zero F.NumberedField.symbol) c.parameters };
 
-    ghost lawful = { unfold two_class_lem in
+    ghost lawful = { unfold two_class in
         let o = F.Field.ops in
         let symbol = numbered o.zero F.NumberedField.symbol in
         let size = F.NumberedField.size in

@@ -1,7 +1,7 @@
 use Rattle.std.proofs.Common.{sym, refl, ap, ◌∙◌, subst, arith}
 use Rattle.row.specs.Numbered.{numbered}
 use Rattle.calls.specs.Theorem.{Begun}
-use Rattle.repair.specs.TwoClass.{two_class_lem}
+use Rattle.repair.specs.TwoClass.{two_class}
 use Rattle.repair.proofs.Makings.{unfit, make_ok, make_err, accepted, small, blanked, wide_field}
 use Rattle.repair.proofs.make.Goals as goal
 
@@ -18,7 +18,7 @@ returns-in-Ok-make g c =
     let p = c.in-Ok.parameters in
     let f = c.in-Ok.ensures in
     let t = c.in-Ok-make.ensures in
-    let w = make_ok size (two_class_lem o symbol p) m (record { code = record { parameters = p } }) c.in-Ok-make.engine t.answer in
+    let w = make_ok size (two_class o symbol p) m (record { code = record { parameters = p } }) c.in-Ok-make.engine t.answer in
     let q = ap (λ x. x.code.parameters) w.0 in
     record {
       passed = accepted o symbol size c.args.k c.args.a c.args.tau c.args.b m p f.1 f.2 f.4 f.0 w.1;
@@ -28,7 +28,7 @@ returns-in-Ok-make g c =
       piggybacks = ap (λ x. x.tau) q ∙ f.3;
       class_b = ap (λ x. x.b) q ∙ f.4;
       leaves = t.leaves ∙ w.2 ∙ blanked o symbol size c.args.k c.args.a c.args.tau c.args.b m p f.1 f.2 f.4 f.0;
-      begun = subst (λ x. Begun o size (two_class_lem o symbol x) m m') (sym q) t.begun;
+      begun = subst (λ x. Begun o size (two_class o symbol x) m m') (sym q) t.begun;
     }
 
 pub returns-in-Err-make : goal.returns-in-Err-make
@@ -40,5 +40,5 @@ returns-in-Err-make g c =
     let p = c.in-Ok.parameters in
     let f = c.in-Ok.ensures in
     let t = c.in-Err-make.ensures in
-    let w = make_err size (two_class_lem o symbol p) m (record { code = record { parameters = p } }) c.in-Err-make.field-0 t.answer (wide_field o symbol size c.args.k c.args.a c.args.tau c.args.b m p f.1 f.2 f.4 f.0) in
+    let w = make_err size (two_class o symbol p) m (record { code = record { parameters = p } }) c.in-Err-make.field-0 t.answer (wide_field o symbol size c.args.k c.args.a c.args.tau c.args.b m p f.1 f.2 f.4 f.0) in
     (small o symbol size c.args.k c.args.a c.args.tau c.args.b m p f.1 f.2 f.4 f.0 w.0, t.leaves ∙ w.1)

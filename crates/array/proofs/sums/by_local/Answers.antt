@@ -1,7 +1,7 @@
 use Rattle.std.proofs.Common.{◌≡◌, ℕ, ◌+◌, ◌-◌, ap, ◌∙◌, arith}
 use Rattle.array.specs.Layout.{wrap, reach}
 use Rattle.array.specs.Symbols.{sum_to, sum_but}
-use Rattle.array.specs.Recovered.{by_local_lem}
+use Rattle.array.specs.Recovered.{by_local}
 use Rattle.array.proofs.Turns.{sum_but_more, sum_but_skip}
 use Rattle.array.proofs.sums.by_local.Goals as goal
 use Rattle.array.proofs.sums.by_local.Goals.{then-m-x, else-m-x}
@@ -19,7 +19,7 @@ loop-m-preserved g c =
     ]
 
 pub returns : goal.returns
-unfolding by_local_lem
+unfolding by_local
 returns g c =
     let f = λ (m : ℕ). g.T.Table.held c.args.table.now c.args.row (wrap c.args.shape (c.args.row + m)) in
     let n : c.loop-m.m - 1 ≡ reach c.args.shape - 1 = omega arith in

@@ -2,7 +2,7 @@ use Rattle.std.proofs.Common.{◌-◌, refl, ap, ◌∙◌, ap₂, arith}
 use Rattle.row.specs.Numbered.{numbered}
 use Rattle.array.specs.Layout.{offset, step_node}
 use Rattle.array.specs.Symbols.{past}
-use Rattle.array.specs.Recovered.{by_local_lem}
+use Rattle.array.specs.Recovered.{by_local}
 use Rattle.access.specs.declared.fetch.Way.TheVariants.{OwnRow, OwnStep, LastStep}
 use Rattle.access.proofs.Offsets.{x_below}
 use Rattle.access.proofs.FetchIndex.{of_step, symbol_way}
@@ -45,5 +45,5 @@ returns-in-LastStep g c =
     let p = s.parameters in
     let o = g.F.Field.ops in
     let f = g.T.Table.held c.args.table.now in
-    c.by_local.ensures ∙ ap (λ x. by_local_lem o p f (p.k - x) s.row) c.offset-x-in-LastStep.ensures
+    c.by_local.ensures ∙ ap (λ x. by_local o p f (p.k - x) s.row) c.offset-x-in-LastStep.ensures
     ∙ symbol_way o (numbered o.zero g.F.NumberedField.symbol) p f s.row s.column c.way.result LastStep c.way.ensures c.in-LastStep.is

@@ -1,16 +1,16 @@
 use Rattle.std.proofs.Common.{◌≡◌, ◌+◌, ◌<◌, ◌≤◌, refl}
 use Rattle.row.specs.Numbered.{numbered}
 use Rattle.array.specs.Symbols.{array}
-use Rattle.repair.specs.TwoClass.{two_class_lem}
+use Rattle.repair.specs.TwoClass.{two_class}
 use Rattle.repair.proofs.Planning.{told}
 use Rattle.repair.proofs.two_class.TwoClassCode.column.Goals as goal
 
 pub new-requires : goal.new-requires
-unfolding two_class_lem
+unfolding two_class
 new-requires g c = record { room = c.requires.fine; within = c.requires.node }
 
 pub returns : goal.returns
-unfolding two_class_lem
+unfolding two_class
 returns g c =
     let o = g.F.Field.ops in
     let symbol = numbered o.zero g.F.NumberedField.symbol in

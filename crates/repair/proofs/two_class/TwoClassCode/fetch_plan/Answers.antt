@@ -4,12 +4,12 @@ use Rattle.row.proofs.Numbers.{numbered_apart}
 use Rattle.code.specs.Codes.{Slotted}
 use Rattle.access.specs.Fetch.{fetch_entries, fetch_symbol, fetch_slot}
 use Rattle.access.proofs.Reached.{fetches}
-use Rattle.repair.specs.TwoClass.{two_class_lem}
+use Rattle.repair.specs.TwoClass.{two_class}
 use Rattle.repair.proofs.Planning.{told_place, wrap_low}
 use Rattle.repair.proofs.two_class.TwoClassCode.fetch_plan.Goals as goal
 
 pub returns : goal.returns
-unfolding two_class_lem
+unfolding two_class
 returns g c =
     let o = g.F.Field.ops in
     let symbol = numbered o.zero g.F.NumberedField.symbol in

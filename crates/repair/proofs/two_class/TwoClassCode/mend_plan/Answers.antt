@@ -3,16 +3,16 @@ use Rattle.row.specs.Numbered.{numbered}
 use Rattle.code.specs.Codes.{Slotted}
 use Rattle.array.specs.Sheet.{mend_entries, slot}
 use Rattle.array.specs.Recovered.{restored}
-use Rattle.repair.specs.TwoClass.{two_class_lem}
+use Rattle.repair.specs.TwoClass.{two_class}
 use Rattle.repair.proofs.Planning.{mend_slotted, told}
 use Rattle.repair.proofs.two_class.TwoClassCode.mend_plan.Goals as goal
 
 pub new-requires : goal.new-requires
-unfolding two_class_lem
+unfolding two_class
 new-requires g c = record { room = c.requires.fine; within = c.requires.node }
 
 pub returns : goal.returns
-unfolding two_class_lem
+unfolding two_class
 returns g c =
     let o = g.F.Field.ops in
     let symbol = numbered o.zero g.F.NumberedField.symbol in

@@ -1,12 +1,12 @@
 use Rattle.std.proofs.Common.{◌≡◌, refl, ◌∙◌}
 use Rattle.row.specs.Numbered.{numbered}
 use Rattle.access.specs.Put.{put_entries, put_weight}
-use Rattle.repair.specs.TwoClass.{two_class_lem}
+use Rattle.repair.specs.TwoClass.{two_class}
 use Rattle.repair.proofs.Planning.{told_place, wrap_low}
 use Rattle.repair.proofs.two_class.TwoClassCode.put_patch.Goals as goal
 
 pub returns : goal.returns
-unfolding two_class_lem
+unfolding two_class
 returns g c =
     let o = g.F.Field.ops in
     let symbol = numbered o.zero g.F.NumberedField.symbol in
