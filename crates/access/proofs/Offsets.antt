@@ -1,5 +1,5 @@
 -- The offset of a data place, and the three ways to solve it. Assumes nothing.
-use Rattle.std.proofs.Common.{◌≡◌, ℕ, zero, suc, ◌+◌, ◌-◌, ◌<◌, ◌≤◌, eqb, leb, ◌⊎◌, refl, subst, inl, inr, ⊎_elim, arith}
+use Rattle.std.proofs.Common.{◌≡◌, ℕ, ◌+◌, ◌-◌, ◌<◌, ◌≤◌, eqb, leb, ◌⊎◌, subst, inl, inr, ⊎_elim, arith}
 use Rattle.std.proofs.lemmas.Bool.{cond_both, eqb-true, eqb-false, leb-true, leb-false}
 use Rattle.array.specs.declared.parameters.Parameters.{Parameters}
 use Rattle.array.specs.Layout.{steps, wrap, offset}
@@ -7,10 +7,6 @@ use Rattle.array.proofs.Wraps.{Wrapped, wrapped, wrapped_is}
 use Rattle.access.specs.declared.fetch.Way.{Way}
 use Rattle.access.specs.declared.fetch.Way.TheVariants.{OwnRow, OwnStep, LastStep}
 use Rattle.access.specs.Fetch.{way_of}
-
-pub positive : (n : ℕ) → (n ≡ 0 → ⊥) → 1 ≤ n
-positive zero h = absurd (h refl)
-positive (suc n) h = omega arith
 
 -- what holds of each way holds of the way of an offset
 pub by_way : (p : Parameters) (x : ℕ) (P : Way → Type 0)
@@ -22,7 +18,7 @@ by_way p x P row step last =
     cond_both (leb x (steps p)) _ _ P (λ b. step (leb-false x p.tau a) (leb-true x (steps p) b))
     (λ b.
     cond_both (eqb p.b 0) _ _ P (λ c. row (inr (eqb-true p.b 0 c)))
-    (λ c. last (leb-false x (steps p) b) (positive p.b (eqb-false p.b 0 c)))))
+    (λ c. last (leb-false x (steps p) b) (let n = eqb-false p.b 0 c in omega arith))))
 
 module _ (p : Parameters) (i j : ℕ) (hi : i < p.k) (hj : j < p.k) (x : ℕ) (is : offset p i j ≡ x) where
   -- the row is x past the node

@@ -13,6 +13,7 @@ use Rattle.array.specs.declared.parameters.Parameters.{Parameters}
 use Rattle.array.specs.Layout.{nodes, steps, offset}
 use Rattle.array.specs.Symbols.{array}
 use Rattle.array.proofs.Members.{In, in_listed, listed_in}
+use Rattle.array.proofs.Parts.{unpart as part_places}
 use Rattle.array.proofs.Once.{Once, distinct_once}
 use Rattle.access.specs.Fetch.{way_of, reads, fetch_places, fetch_entries, fetch_size, fetch_symbol, fetch_slot}
 use Rattle.access.specs.Theorems.{Fetches}
@@ -24,8 +25,7 @@ use Rattle.access.proofs.Solving.{solved}
 -- the places of a listing in one part
 pub unpart : (part : Part) (ps : List Place) → places_of (in_part part ps) ≡ ps
 unfolding places_of
-unpart part [] = refl
-unpart part (q ∷ ps) = ap (λ qs. q ∷ qs) (unpart part ps)
+unpart part ps = part_places part ps
 
 pub length_part : (part : Part) (ps : List Place) → length (in_part part ps) ≡ length ps
 length_part part ps = length-map ps _

@@ -6,6 +6,7 @@ ghost use Rattle.access.specs.Theorems.{Fetches, Puts};
 
 use field::{Field, NumberedField};
 
+mod data_place;
 mod fetch;
 mod put;
 

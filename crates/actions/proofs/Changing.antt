@@ -1,7 +1,8 @@
 -- The loop that changes the places of a patch one by one.
-use Rattle.std.proofs.Common.{◌≡◌, ℕ, ◌+◌, ◌<◌, ◌≤◌, Bool, true, false, cond, ◌&&◌, ◌||◌, List, [], ◌∷◌, ◌++◌, length, get_or, take, Some, Err, Option, sym, refl, ap, ◌∙◌, ap₂, arith}
+use Rattle.std.proofs.Common.{◌≡◌, ℕ, ◌+◌, Bool, true, false, cond, ◌&&◌, ◌||◌, List, [], ◌∷◌, ◌++◌, get_or, Some, None, Err, Option, append_assoc, sym, refl, ap, ◌∙◌, ap₂}
 use mathlib.Core.Path.{fun_ext}
-use Rattle.std.proofs.lemmas.List.{get_or_read, take_all}
+use Rattle.std.specs.Option.{MatchOption}
+use Rattle.std.proofs.lemmas.List.{append-nil}
 use Rattle.std.proofs.lemmas.Bool.{cond-false}
 use Rattle.field.specs.Laws.{Operations}
 use Rattle.store.specs.Meaning.{Meaning, on, probed, judged, fault, written}
@@ -12,10 +13,9 @@ use Rattle.sheet.specs.declared.place.Entry.{Entry}
 use Rattle.sheet.specs.Places.{at, same_place, listed, distinct, places_of}
 use Rattle.code.specs.Codes.{Change}
 use Rattle.calls.specs.Calls.{patched}
-use Rattle.sheet.proofs.Lists.{listed_push, same_place_path}
+use Rattle.sheet.proofs.Lists.{listed_push, same_place_path, listed_mid, once_new, places_append}
 use Rattle.calls.specs.Reading.{symbol_at, or_else, raised, painted}
 use Rattle.reading.specs.Checks.{Clear, Readable}
-use Rattle.reading.proofs.Lists.{listed_here, take_one_more, once_new}
 use Rattle.reading.proofs.Checking.{probed_on}
 use Rattle.reading.proofs.Gathering.{raised_none, raised_push}
 use Rattle.actions.specs.Patching.{changed, first_difference, patched_by}
@@ -66,44 +66,61 @@ module _ {F : Type 0} (o : Operations F) (m : Meaning F) (weight : ℕ → ℕ �
         symbols i j true false t = refl
         symbols i j false false t = refl
 
--- what the loop has done once it has gone through the first i places
-pub record Front {F : Type 0} (o : Operations F) (m : Meaning F) (ps : List Place) (weight : ℕ → ℕ → F) (x : F) (i : ℕ) (m₁ : Meaning F) (difference : F) : Type 0 where
-  pub leaves : m₁ ≡ changed o m (take i ps) weight (first_difference o m ps x)
-  pub known : 0 < i → difference ≡ first_difference o m ps x
+-- what the loop has done once it has gone through the places of `front`: from the first of them it knows the difference
+pub record Front {F : Type 0} (o : Operations F) (m : Meaning F) (ps : List Place) (weight : ℕ → ℕ → F) (x : F) (front : List Place) (m₁ : Meaning F) (difference : Option F) : Type 0 where
+  pub leaves : m₁ ≡ changed o m front weight (first_difference o m ps x)
+  pub known : MatchOption difference (front ≡ []) (λ d. d ≡ first_difference o m ps x)
 
-module _ {F : Type 0} (o : Operations F) (m : Meaning F) (ps : List Place) (weight : ℕ → ℕ → F) (x : F) where
-  pub front_none : (d : F) → Front o m ps weight x 0 m d
-  front_none d = record { leaves = changed_none o m weight (first_difference o m ps x); known = λ l. absurd (omega arith) }
+module _ {F : Type 0} {o : Operations F} {m : Meaning F} {weight : ℕ → ℕ → F} {x : F} where
+  pub front_none : (ps : List Place) → Front o m ps weight x (places_of []) m None
+  unfolding places_of
+  front_none ps = record { leaves = changed_none o m weight (first_difference o m ps x); known = refl }
 
-  module _ (clear : Clear m ps) (once : distinct ps ≡ ps) (i : ℕ) (p : Place) (lt : i < length ps) (here : p ≡ get_or ps i p) (m₁ : Meaning F) (d : F) (f : Front o m ps weight x i m₁ d) where
-    new : listed (take i ps) p ≡ false
-    new = once_new ps i p lt here once
+  module _ {es left rest : List Entry} {e : Entry} {m₁ : Meaning F} {d : Option F} (front : List Entry) (clear : Clear m (places_of es)) (once : distinct (places_of es) ≡ places_of es) (whole : front ++ left ≡ es) (step : left ≡ e ∷ rest) (f : Front o m (places_of es) weight x (places_of front) m₁ d) where
+    parted : places_of es ≡ places_of front ++ (e.place ∷ places_of rest)
+    unfolding places_of
+    parted = ap places_of (sym whole ∙ ap (λ t. front ++ t) step) ∙ places_append front (e ∷ rest)
 
-    readable_here : Readable m p.row p.node
-    readable_here = clear p.row p.node (listed_here ps i p lt here)
+    new : listed (places_of front) e.place ≡ false
+    new = once_new (places_of front) e.place (places_of rest) (sym (ap distinct parted) ∙ once ∙ parted)
 
-    pub front_readable : Readable m₁ p.row p.node
-    front_readable = still_readable o m weight (first_difference o m ps x) (take i ps) p new m₁ f.leaves readable_here
+    pub on_patch : listed (places_of es) e.place ≡ true
+    on_patch = ap (λ t. listed t e.place) parted ∙ listed_mid (places_of front) e.place (places_of rest)
+
+    readable_here : Readable m e.place.row e.place.node
+    readable_here = clear e.place.row e.place.node on_patch
+
+    pub front_readable : Readable m₁ e.place.row e.place.node
+    front_readable = still_readable o m weight (first_difference o m (places_of es) x) (places_of front) e.place new m₁ f.leaves readable_here
+
+    pub whole_more : (front ++ (e ∷ [])) ++ rest ≡ es
+    whole_more = append_assoc front (e ∷ []) rest ∙ ap (λ t. front ++ t) (sym step) ∙ whole
 
     -- the first place gives the difference
-    pub front_first : (old : F) → old ≡ symbol_at o.zero m₁ p.row p.node → i ≡ 0 → o.difference x old ≡ first_difference o m ps x
+    pub front_difference : (old d' : F) → old ≡ symbol_at o.zero m₁ e.place.row e.place.node → MatchOption d (d' ≡ o.difference x old) (λ y. d' ≡ y) → d' ≡ first_difference o m (places_of es) x
     unfolding first_difference
-    front_first old e q =
-        let first : p ≡ get_or ps 0 (at 0 0) = get_or_read ps i p lt here (at 0 0) ∙ ap (λ k. get_or ps k (at 0 0)) q in
-        ap (o.difference x) (e ∙ old_symbol o m weight (first_difference o m ps x) (take i ps) p new m₁ f.leaves ∙ ap (λ y. symbol_at o.zero m y.row y.node) first)
+    front_difference old d' was given = go d f.known given
+      where
+        at-first : places_of front ≡ [] → e.place ≡ get_or (places_of es) 0 (at 0 0)
+        at-first q = sym (ap (λ t. get_or t 0 (at 0 0)) (parted ∙ ap (λ t. t ++ (e.place ∷ places_of rest)) q))
 
-    pub front_more : (m₂ m₃ : Meaning F) (old s d' : F) → m₂ ≡ raised m₁ (p ∷ []) → old ≡ symbol_at o.zero m₁ p.row p.node → d' ≡ first_difference o m ps x → s ≡ o.sum old (o.product (weight p.row p.node) d') → m₃ ≡ written m₂ p.row p.node s → Front o m ps weight x (i + 1) m₃ d'
-    front_more m₂ m₃ old s d' e was known-d value l =
+        go : (t : Option F) → MatchOption t (places_of front ≡ []) (λ y. y ≡ o.difference x (symbol_at o.zero m (get_or (places_of es) 0 (at 0 0)).row (get_or (places_of es) 0 (at 0 0)).node)) → MatchOption t (d' ≡ o.difference x old) (λ y. d' ≡ y) → d' ≡ o.difference x (symbol_at o.zero m (get_or (places_of es) 0 (at 0 0)).row (get_or (places_of es) 0 (at 0 0)).node)
+        go None q h = h ∙ ap (o.difference x) (was ∙ old_symbol o m weight (first_difference o m (places_of es) x) (places_of front) e.place new m₁ f.leaves ∙ ap (λ y. symbol_at o.zero m y.row y.node) (at-first q))
+        go (Some y) q h = h ∙ q
+
+    pub front_more : (m₂ m₃ : Meaning F) (old s d' : F) → m₂ ≡ raised m₁ (e.place ∷ []) → old ≡ symbol_at o.zero m₁ e.place.row e.place.node → d' ≡ first_difference o m (places_of es) x → s ≡ o.sum old (o.product (weight e.place.row e.place.node) d') → m₃ ≡ written m₂ e.place.row e.place.node s → Front o m (places_of es) weight x (places_of (front ++ (e ∷ []))) m₃ (Some d')
+    unfolding places_of
+    front_more m₂ m₃ old s d' r was known-d value l =
         record {
           leaves =
-              changed_more o m weight (first_difference o m ps x) (take i ps) p new m₁ f.leaves m₂ m₃ s (probed_on m p.row p.node readable_here.0 readable_here.1) e (value ∙ ap₂ (λ u v. o.sum u (o.product (weight p.row p.node) v)) was known-d) l
-              ∙ ap (λ qs. changed o m qs weight (first_difference o m ps x)) (sym (take_one_more ps i p lt here));
-          known = λ _. known-d;
+              changed_more o m weight (first_difference o m (places_of es) x) (places_of front) e.place new m₁ f.leaves m₂ m₃ s (probed_on m e.place.row e.place.node readable_here.0 readable_here.1) r (value ∙ ap₂ (λ u v. o.sum u (o.product (weight e.place.row e.place.node) v)) was known-d) l
+              ∙ ap (λ qs. changed o m qs weight (first_difference o m (places_of es) x)) (sym (places_append front (e ∷ [])));
+          known = known-d;
         }
 
-  pub front_all : (i : ℕ) (m₁ : Meaning F) (d : F) → length ps ≤ i → Front o m ps weight x i m₁ d → m₁ ≡ patched_by o m ps weight x
+  pub front_all : {es left : List Entry} {m₁ : Meaning F} {d : Option F} (front : List Entry) → front ++ left ≡ es → left ≡ [] → Front o m (places_of es) weight x (places_of front) m₁ d → m₁ ≡ patched_by o m (places_of es) weight x
   unfolding patched_by
-  front_all i m₁ d l f = f.leaves ∙ ap (λ qs. changed o m qs weight (first_difference o m ps x)) (take_all i ps l)
+  front_all {es = es} front whole none f = f.leaves ∙ ap (λ t. changed o m (places_of t) weight (first_difference o m (places_of es) x)) (sym (append-nil front) ∙ ap (λ t. front ++ t) (sym none) ∙ whole)
 
 -- a patch of the code's change
 pub patched_is : {F : Type 0} (o : Operations F) (m : Meaning F) (c : Change F) (es : List Entry) (weight : ℕ → ℕ → F) (row column : ℕ) (x : F) → es ≡ c.entries → ((i j : ℕ) → listed (places_of es) (at i j) ≡ true → weight i j ≡ c.weight i j) → ((rest : List Place) × (places_of c.entries ≡ at row column ∷ rest)) → patched_by o m (places_of es) weight x ≡ patched o m c row column x

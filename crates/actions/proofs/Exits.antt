@@ -1,18 +1,15 @@
 -- Each exit of a call, by what led to it.
-use Rattle.std.proofs.Common.{◌≡◌, ℕ, ◌<◌, ◌≤◌, true, false, cond, ltb, List, [], ◌∷◌, map, length, Some, None, Ok, Err, Option, Result, sym, refl, ap, ◌∙◌, subst, ap₂, inl, inr, arith}
-use Rattle.std.proofs.lemmas.Bool.{lt-ltb, cond-true}
-use Rattle.store.specs.Meaning.{Meaning, on, summed, total, fault}
-use Rattle.store.specs.declared.fault.StoreFault.{StoreFault}
-use Rattle.store.specs.declared.fault.Cause.TheVariants.{OffStore}
+use Rattle.std.proofs.Common.{◌≡◌, ℕ, ◌<◌, ◌≤◌, true, false, cond, List, [], ◌∷◌, map, length, None, Ok, Err, Option, Result, sym, refl, ap, ◌∙◌, subst, ap₂, inl, inr, arith}
+use Rattle.std.proofs.lemmas.Bool.{cond-true}
+use Rattle.store.specs.Meaning.{Meaning, on}
 use Rattle.sheet.specs.declared.place.Entry.{Entry}
 use Rattle.sheet.specs.declared.place.Record.{Record}
 use Rattle.sheet.specs.declared.place.Part.TheVariants.{First}
 use Rattle.sheet.specs.Places.{at, listed, places_of, sheet_of}
-use Rattle.sheet.proofs.Lists.{distinct_one, listed_one}
 use Rattle.sheet.specs.declared.place.Place.{Place}
 use Rattle.code.specs.Codes.{CodeMeaning, Recipe, Slotted, blanks, is_blank}
 use Rattle.calls.specs.Reading.{symbol_at, seen, raised, painted, in_node, wiped, blank_record}
-use Rattle.calls.specs.Calls.{answered, unless, Plain, Sheeted, node_meters, given_by, held, fetch_recipe, found, FetchedBy, mend_recipe, mend_sheet, mended, after_memory}
+use Rattle.calls.specs.Calls.{Sheeted, given_by, held, fetch_recipe, found, FetchedBy, mend_recipe, mend_sheet, mended, after_memory}
 use Rattle.calls.specs.Faults.{sheet_fault, call_fault}
 use Rattle.calls.specs.declared.call.CallName.{CallName}
 use Rattle.calls.specs.declared.call.CallName.TheVariants.{Fetch, Mend}
@@ -21,29 +18,15 @@ use Rattle.calls.specs.declared.call.CallFault.{CallFault}
 use Rattle.calls.specs.declared.call.SheetFault.{SheetFault}
 use Rattle.calls.specs.declared.call.Found.{Found}
 use Rattle.reading.specs.Checks.{checked, Readable}
-use Rattle.reading.proofs.Lists.{places_length, places_at, listed_here, one_listed}
+use Rattle.sheet.proofs.Lists.{distinct_one, listed_one, listed_at, places_length, places_at, one_listed}
 use Rattle.reading.proofs.Checking.{checked_clear, checked_stops}
 use Rattle.actions.proofs.Declining.{declined_here}
 use Rattle.actions.proofs.Painting.{painted_ext, node_row}
 
--- a call that reads nothing
-module _ {A F : Type 0} (call : CallName) (d : Option Reason) (a : A) (m m₂ : Meaning F) where
-  pub plain_declined : (e : Reason) → Some e ≡ d → Plain call d a m m₂ (Err (record { call = call; reason = e })) m
-  unfolding answered unless
-  plain_declined e h = record { answer = ap (λ x. answered call x a) h; leaves = ap (λ x. unless x m₂ m) h }
-
-  pub plain_done : (r : Result A CallFault) (m' : Meaning F) → None ≡ d → r ≡ Ok a → m' ≡ m₂ → Plain call d a m m₂ r m'
-  unfolding answered unless
-  plain_done r m' h p l = record { answer = p ∙ ap (λ x. answered call x a) h; leaves = l ∙ ap (λ x. unless x m₂ m) h }
-
 -- a call that reads a sheet
 module _ {A F : Type 0} (call : CallName) (m : Meaning F) (es : List Entry) (a : A) (m₂ : Meaning F) where
-  pub sheet_declined : (d : Option Reason) (e : Reason) → Some e ≡ d → Sheeted call d m es a m₂ (Err (record { call = call; reason = e })) m
-  unfolding Sheeted
-  sheet_declined d e h = subst (λ x. Sheeted call x m es a m₂ (Err (record { call = call; reason = e })) m) h (record { answer = refl; leaves = refl })
-
-  pub sheet_open : (d : Option Reason) (r : Result A CallFault) (m' : Meaning F) → None ≡ d → Sheeted call None m es a m₂ r m' → Sheeted call d m es a m₂ r m'
-  sheet_open d r m' h s = subst (λ x. Sheeted call x m es a m₂ r m') h s
+  pub sheet_open : (d : Option Reason) (r : Result A CallFault) (m' : Meaning F) → d ≡ None → Sheeted call None m es a m₂ r m' → Sheeted call d m es a m₂ r m'
+  sheet_open d r m' h s = subst (λ x. Sheeted call x m es a m₂ r m') (sym h) s
 
   pub sheet_read : (r : Result A CallFault) (m' : Meaning F) → Ok tt ≡ checked call m es → r ≡ Ok a → m' ≡ m₂ → Sheeted call None m es a m₂ r m'
   unfolding Sheeted
@@ -54,7 +37,7 @@ module _ {A F : Type 0} (call : CallName) (m : Meaning F) (es : List Entry) (a :
   sheet_unread inside f r m' c p l =
       let s = checked_stops call m es f (sym c) in
       let q = s.entry.place in
-      let t = listed_here (places_of es) s.index s.entry.place (omega (arith, s.within, places_length es)) (places_at es s.index s.entry s.within (sym s.on_sheet)) in
+      let t = ap (listed (places_of es)) (places_at es s.index s.entry s.within (sym s.on_sheet)) ∙ listed_at (places_of es) s.index s.entry.place (omega (arith, s.within, places_length es)) in
       let w = declined_here m s.entry.place.row s.entry.place.node (inside s.entry.place.row s.entry.place.node t) f.fault s.declined in
       inr (record {
         index = s.index;
@@ -90,31 +73,20 @@ memory_wiped z a r memory memory₁ memory₂ e w l = w ∙ wiped_same z memory�
 pub slotted_more : (es : List Entry) (slot : ℕ → ℕ → ℕ) (room n : ℕ) → room ≤ n → Slotted es slot room → Slotted es slot n
 slotted_more es slot room n l s = record { within = λ i j h. omega (arith, s.within i j h); apart = s.apart }
 
--- lose and refresh
-pub summed_is : {F : Type 0} (m : Meaning F) (node : ℕ) → node < m.nodes → summed m node ≡ Ok (node_meters m node)
-unfolding node_meters
-summed_is m node l = cond-true (ltb node m.nodes) (Ok (total (λ row. m.meter row node) m.rows)) (Err (fault 0 node OffStore)) (lt-ltb node m.nodes l)
-
-pub summed_ok : {F : Type 0} (m : Meaning F) (node n : ℕ) → node < m.nodes → Ok n ≡ summed m node → n ≡ node_meters m node
-summed_ok m node n l e = let q = e ∙ summed_is m node l in cc
-
-pub summed_err : {F : Type 0} (m : Meaning F) (node : ℕ) (x : StoreFault) → node < m.nodes → Err x ≡ summed m node → ⊥
-summed_err m node x l e = let q = e ∙ summed_is m node l in let z : ◌≡◌ {A = ℕ} 0 1 = cc in omega arith
-
 -- fetch
-module _ {F : Type 0} (z : F) (code : CodeMeaning F) (m : Meaning F) (row column : ℕ) (d : Option Reason) (passes : None ≡ d) (r : Result (Found F) CallFault) (m' : Meaning F) where
+module _ {F : Type 0} (z : F) (code : CodeMeaning F) (m : Meaning F) (row column : ℕ) (d : Option Reason) (passes : d ≡ None) (r : Result (Found F) CallFault) (m' : Meaning F) where
   pub fetch_blank : is_blank (m.symbol row column) ≡ true → (es : List Entry) (v : (ℕ → ℕ → F) → ℕ → F) → es ≡ (code.fetch (blanks m) row column).entries → ((f : ℕ → ℕ → F) → v f row ≡ (code.fetch (blanks m) row column).symbol f row) → FetchedBy z None m (record { entries = es; symbol = v }) row r m' → FetchedBy z d m (fetch_recipe code m row column) row r m'
   unfolding FetchedBy fetch_recipe found given_by
   fetch_blank b es v e h s =
       let q : Recipe F = code.fetch (blanks m) row column in
-      subst (λ x. Sheeted Fetch x m (cond (is_blank (m.symbol row column)) (code.fetch (blanks m) row column) (held row column)).entries (found z m (cond (is_blank (m.symbol row column)) (code.fetch (blanks m) row column) (held row column)) row) (raised m (sheet_of (cond (is_blank (m.symbol row column)) (code.fetch (blanks m) row column) (held row column)).entries)) r m') passes
+      subst (λ x. Sheeted Fetch x m (cond (is_blank (m.symbol row column)) (code.fetch (blanks m) row column) (held row column)).entries (found z m (cond (is_blank (m.symbol row column)) (code.fetch (blanks m) row column) (held row column)) row) (raised m (sheet_of (cond (is_blank (m.symbol row column)) (code.fetch (blanks m) row column) (held row column)).entries)) r m') (sym passes)
       (subst (λ t. Sheeted Fetch None m (cond t (code.fetch (blanks m) row column) (held row column)).entries (found z m (cond t (code.fetch (blanks m) row column) (held row column)) row) (raised m (sheet_of (cond t (code.fetch (blanks m) row column) (held row column)).entries)) r m') (sym b)
       (subst (λ u. Sheeted Fetch None m (code.fetch (blanks m) row column).entries (record { count = length (sheet_of (code.fetch (blanks m) row column).entries); symbol = u }) (raised m (sheet_of (code.fetch (blanks m) row column).entries)) r m') (h (seen z m (places_of (code.fetch (blanks m) row column).entries)))
       (subst (λ t. Sheeted Fetch None m t (record { count = length (sheet_of t); symbol = v (seen z m (places_of t)) row }) (raised m (sheet_of t)) r m') e s)))
 
   pub fetch_held : is_blank (m.symbol row column) ≡ false → FetchedBy z None m (held row column) row r m' → FetchedBy z d m (fetch_recipe code m row column) row r m'
   unfolding fetch_recipe
-  fetch_held b s = subst (λ x. FetchedBy z x m (cond (is_blank (m.symbol row column)) (code.fetch (blanks m) row column) (held row column)) row r m') passes (subst (λ t. FetchedBy z None m (cond t (code.fetch (blanks m) row column) (held row column)) row r m') (sym b) s)
+  fetch_held b s = subst (λ x. FetchedBy z x m (cond (is_blank (m.symbol row column)) (code.fetch (blanks m) row column) (held row column)) row r m') (sym passes) (subst (λ t. FetchedBy z None m (cond t (code.fetch (blanks m) row column) (held row column)) row r m') (sym b) s)
 
 -- a held place, read by itself
 module _ {F : Type 0} (z : F) (m : Meaning F) (row column : ℕ) where
@@ -127,10 +99,10 @@ module _ {F : Type 0} (z : F) (m : Meaning F) (row column : ℕ) where
   held_raised = ap (raised m) (sym (distinct_one (at row column)))
 
 -- mend
-pub mend_by_plan : {F : Type 0} (z : F) (code : CodeMeaning F) (m : Meaning F) (node : ℕ) (d : Option Reason) → None ≡ d → (rows : ℕ) → rows ≡ code.rows → (es : List Entry) (v : (ℕ → ℕ → F) → ℕ → F) → es ≡ (code.mend (blanks m) node).entries → ((f : ℕ → ℕ → F) (row : ℕ) → row < code.rows → v f row ≡ (code.mend (blanks m) node).symbol f row) → (r : Result ℕ CallFault) (m' : Meaning F) → Sheeted Mend None m es (length (sheet_of es)) (painted (raised m (sheet_of es)) (in_node rows node) (λ i j. given_by z m (record { entries = es; symbol = v }) i)) r m' → Sheeted Mend d m (mend_recipe code m node).entries (length (mend_sheet code m node)) (mended z code m node) r m'
+pub mend_by_plan : {F : Type 0} (z : F) (code : CodeMeaning F) (m : Meaning F) (node : ℕ) (d : Option Reason) → d ≡ None → (rows : ℕ) → rows ≡ code.rows → (es : List Entry) (v : (ℕ → ℕ → F) → ℕ → F) → es ≡ (code.mend (blanks m) node).entries → ((f : ℕ → ℕ → F) (row : ℕ) → row < code.rows → v f row ≡ (code.mend (blanks m) node).symbol f row) → (r : Result ℕ CallFault) (m' : Meaning F) → Sheeted Mend None m es (length (sheet_of es)) (painted (raised m (sheet_of es)) (in_node rows node) (λ i j. given_by z m (record { entries = es; symbol = v }) i)) r m' → Sheeted Mend d m (mend_recipe code m node).entries (length (mend_sheet code m node)) (mended z code m node) r m'
 unfolding mend_recipe mend_sheet mended given_by
 mend_by_plan {F} z code m node d passes rows er es v e h r m' s =
-    subst (λ x. Sheeted Mend x m (code.mend (blanks m) node).entries (length (sheet_of (code.mend (blanks m) node).entries)) (mended z code m node) r m') passes
+    subst (λ x. Sheeted Mend x m (code.mend (blanks m) node).entries (length (sheet_of (code.mend (blanks m) node).entries)) (mended z code m node) r m') (sym passes)
     (subst (λ x. Sheeted Mend None m (code.mend (blanks m) node).entries (length (sheet_of (code.mend (blanks m) node).entries)) x r m')
     (painted_ext (raised m (sheet_of (code.mend (blanks m) node).entries)) (in_node code.rows node) (λ i j. v (seen z m (places_of (code.mend (blanks m) node).entries)) i) (λ i j. (code.mend (blanks m) node).symbol (seen z m (places_of (code.mend (blanks m) node).entries)) i) (λ i j t. h (seen z m (places_of (code.mend (blanks m) node).entries)) i (node_row code.rows node i j t).0))
     (subst (λ n. Sheeted Mend None m (code.mend (blanks m) node).entries (length (sheet_of (code.mend (blanks m) node).entries)) (painted (raised m (sheet_of (code.mend (blanks m) node).entries)) (in_node n node) (λ i j. v (seen z m (places_of (code.mend (blanks m) node).entries)) i)) r m') er

@@ -4,7 +4,6 @@ ghost use Rattle.sheet.specs.Places.{at as at_place, listed, places_of};
 ghost use Rattle.store.specs.Meaning.{on};
 ghost use Rattle.code.specs.Codes.{Slotted};
 ghost use Rattle.calls.specs.Calls.{FetchedBy, held, after_memory};
-ghost use Rattle.reading.specs.Tables.{kept};
 
 use calls::{CallFault, CallName, Found};
 use code::ReadPlan;
@@ -24,26 +23,15 @@ pub fn fetch_held<F: NumberedField, S: Store<F>>(
     ensures done { FetchedBy F.Field.ops.zero None (S.Store.meaning store.old) (held row column) row result (S.Store.meaning store.new) }
     ensures memory { memory.new ≡ after_memory F.Field.ops.zero result memory.old }
 {
+    let place = Place { row, node: column };
     let entry = Entry {
         part: Part::First,
-        place: Place { row, node: column },
+        place,
     };
     probe_entry(store, entry, CallName::Fetch)?;
-    let symbol = read_place(store, row, column);
+    let symbol = read_place(store, place);
     wipe(memory);
     Ok(Found { count: 1, symbol })
-}
-
-// The symbol of a row by a plan, from what was read.
-fn solve_from<F: NumberedField, P: ReadPlan<F>>(plan: &P, memory: &[Record<F>], row: usize) -> F
-    requires { P.Solver.ready plan.now row }
-    ensures { result ≡ P.Solver.solved plan.now (kept F.Field.ops.zero memory.now (P.ReadPlan.slot plan.now)) row }
-{
-    let cache = Cache {
-        records: memory,
-        plan,
-    };
-    plan.solve(&cache, row)
 }
 
 // Reads the sheet of a plan, and solves one row from it.
@@ -61,7 +49,11 @@ pub fn fetch_by<F: NumberedField, S: Store<F>, P: ReadPlan<F>>(
 {
     check(store, plan, CallName::Fetch)?;
     let count = gather(store, plan, memory);
-    let symbol = solve_from(plan, memory, row);
+    let cache = Cache {
+        records: memory,
+        plan,
+    };
+    let symbol = plan.solve(&cache, row);
     wipe(memory);
     Ok(Found { count, symbol })
 }

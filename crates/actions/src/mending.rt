@@ -6,7 +6,6 @@ ghost use Rattle.store.specs.Meaning.{on};
 ghost use Rattle.calls.specs.Reading.{painted, in_node, raised};
 ghost use Rattle.calls.specs.Calls.{Sheeted, given_by, after_memory};
 ghost use Rattle.calls.specs.declared.call.CallName.TheVariants.{Mend};
-ghost use Rattle.reading.specs.Tables.{kept};
 
 use crate::writing::write_node;
 use calls::{CallFault, CallName};
@@ -15,25 +14,6 @@ use field::NumberedField;
 use reading::{Cache, check, gather, wipe};
 use sheet::Record;
 use store::Store;
-
-// Writes the rows of a node, each solved by a plan from what was read.
-fn rebuild<F: NumberedField, S: Store<F>, P: ReadPlan<F>>(
-    store: &mut S,
-    plan: &P,
-    memory: &[Record<F>],
-    rows: usize,
-    node: usize,
-)
-    requires room { (rows ≤ (S.Store.meaning store.old).rows) × (node < (S.Store.meaning store.old).nodes) }
-    requires ready { (row : ℕ) → row < rows → P.Solver.ready plan.now row }
-    ensures { S.Store.meaning store.new ≡ painted (S.Store.meaning store.old) (in_node rows node) (λ i _. P.Solver.solved plan.now (kept F.Field.ops.zero memory.now (P.ReadPlan.slot plan.now)) i) }
-{
-    let cache = Cache {
-        records: memory,
-        plan,
-    };
-    write_node(store, plan, &cache, rows, node);
-}
 
 // Reads the sheet of a plan, and rewrites the rows of a node from it.
 pub fn mend_by<F: NumberedField, S: Store<F>, P: ReadPlan<F>>(
@@ -52,7 +32,11 @@ pub fn mend_by<F: NumberedField, S: Store<F>, P: ReadPlan<F>>(
 {
     check(store, plan, CallName::Mend)?;
     let count = gather(store, plan, memory);
-    rebuild(store, plan, memory, rows, node);
+    let cache = Cache {
+        records: memory,
+        plan,
+    };
+    write_node(store, plan, &cache, rows, node);
     wipe(memory);
     Ok(count)
 }

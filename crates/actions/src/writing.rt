@@ -9,6 +9,7 @@ use sheet::Table;
 use store::Store;
 
 // Blanks the nodes below a number.
+#[tactic(auto, using(crate::proofs::Painting::blank_start, crate::proofs::Painting::blank_more))]
 pub fn clear_nodes<F: NumberedField, S: Store<F>>(store: &mut S, nodes: usize)
     requires { nodes ≤ (S.Store.meaning store.old).nodes }
     ensures { S.Store.meaning store.new ≡ blank_below nodes (S.Store.meaning store.old) }
@@ -19,6 +20,8 @@ pub fn clear_nodes<F: NumberedField, S: Store<F>>(store: &mut S, nodes: usize)
 }
 
 // Writes the rows of a node, each solved from a table.
+// Kept: whether rows and node lie on the store, only the store that is lent for the call can say.
+#[tactic(auto, using(crate::proofs::Painting::painted_none, crate::proofs::Painting::node_start))]
 pub fn write_node<F: NumberedField, S: Store<F>, V: Solver<F>, T: Table<F>>(
     store: &mut S,
     solver: &V,
@@ -36,6 +39,7 @@ pub fn write_node<F: NumberedField, S: Store<F>, V: Solver<F>, T: Table<F>>(
 }
 
 // Writes the whole array over data, node by node.
+#[tactic(auto, using(crate::proofs::Painting::painted_none, crate::proofs::Painting::array_start))]
 pub fn write_array<F: NumberedField, S: Store<F>, C: Code<F>, T: Table<F>>(
     store: &mut S,
     code: &C,

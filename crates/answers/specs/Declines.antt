@@ -2,7 +2,7 @@
 use Rattle.std.specs.Prelude.{ℕ, Some, None, Option}
 use Rattle.lines.specs.declared.line.LineFault as fault
 use Rattle.lines.specs.declared.line.LineFault.{LineFault}
-use Rattle.answers.specs.declared.decline.Place.{Place}
+use Rattle.sheet.specs.declared.place.Place.{Place}
 use Rattle.answers.specs.declared.decline.Decline.{Decline}
 use Rattle.answers.specs.declared.decline.Decline.TheVariants.{StoreBounds, DataNodes, ClassANodes, Piggybacks, ClassBNodes, SmallField, SmallStore, OutOfRange, WrongLength, ShortMemory, TooLong, UnknownCall, WordCount, Malformed, NotSymbol, NotLost, Blank, Worn, AlreadyMade, NotMade}
 

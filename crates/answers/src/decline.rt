@@ -3,13 +3,7 @@ ghost use Rattle.std.specs.Prelude.{◌≡◌, Option};
 ghost use Rattle.answers.specs.Declines.{number_of, place_of, line_decline};
 
 use lines::line::LineFault;
-
-// A row and a node.
-#[derive(Clone, Copy)]
-pub struct Place {
-    pub row: usize,
-    pub node: usize,
-}
+use sheet::Place;
 
 // Why a line is declined.
 #[derive(Clone, Copy)]
@@ -61,6 +55,7 @@ impl Decline {
     pub fn number(self) -> usize
         ensures { result ≡ number_of self }
     {
+        // Kept: two declines carry a place, and the numbers of such an enum cannot be cast.
         match self {
             Decline::StoreBounds => 10,
             Decline::DataNodes => 11,
@@ -90,8 +85,7 @@ impl Decline {
         ensures { result ≡ place_of self }
     {
         match self {
-            Decline::Blank(place) => Some(place),
-            Decline::Worn(place) => Some(place),
+            Decline::Blank(place) | Decline::Worn(place) => Some(place),
             _ => None,
         }
     }

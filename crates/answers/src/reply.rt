@@ -1,12 +1,14 @@
 // What a line is answered.
 use crate::decline::Decline;
 
-// What a line is answered: make its number of nodes, set, put and mend their count, lose and refresh the sum cleared, fetch its count and the symbol.
+// What an accepted line is answered: make its number of nodes, set, put and mend their count, lose and refresh the sum cleared, fetch its count and the symbol.
 #[derive(Clone, Copy)]
-pub enum Reply<S> {
+pub enum Accepted<S> {
     Made(usize),
     Counted(usize),
     Cleared(u32),
     Fetched(usize, S),
-    Declined(Decline),
 }
+
+// What a line is answered, accepted or declined.
+pub type Reply<S> = Result<Accepted<S>, Decline>;

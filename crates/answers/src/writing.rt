@@ -3,8 +3,9 @@ ghost use Rattle.std.specs.Prelude.{◌≡◌, [], ◌∷◌, ◌++◌, IfOk, co
 ghost use Rattle.text.specs.Parts.{joined_by};
 ghost use Rattle.answers.specs.Lines.{decline_words, place_words, reply_words, answer_line};
 
-use crate::decline::{Decline, Place};
-use crate::reply::Reply;
+use crate::decline::Decline;
+use crate::reply::{Accepted, Reply};
+use sheet::Place;
 use std::alloc::{AllocError, Global};
 use symbols::notation::Notation;
 use text::numbers::push_number;
@@ -59,11 +60,10 @@ fn write_words<S: Notation>(reply: Reply<S>, out: &mut Vec<u8>) -> Result<(), Al
     ensures { OnOk result (out.new.items ≡ out.old.items ++ joined_by 9 (reply_words S.Notation.written reply)) }
 {
     match reply {
-        Reply::Made(nodes) => write_number(nodes, out),
-        Reply::Counted(count) => write_number(count, out),
-        Reply::Cleared(sum) => write_number(sum as usize, out),
-        Reply::Fetched(count, symbol) => write_fetched(count, symbol, out),
-        Reply::Declined(decline) => write_decline(decline, out),
+        Ok(Accepted::Made(number) | Accepted::Counted(number)) => write_number(number, out),
+        Ok(Accepted::Cleared(sum)) => write_number(sum as usize, out),
+        Ok(Accepted::Fetched(count, symbol)) => write_fetched(count, symbol, out),
+        Err(decline) => write_decline(decline, out),
     }
 }
 

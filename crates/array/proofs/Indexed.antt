@@ -1,5 +1,5 @@
 -- What the listing of a data node has at an index. Assumes nothing.
-use Rattle.std.proofs.Common.{◌≡◌, ℕ, zero, suc, ◌+◌, ◌-◌, ◌*◌, ◌/◌, ◌%◌, ◌<◌, ◌≤◌, eqb, List, [], ◌∷◌, ◌++◌, map, length, get_or, sym, refl, ap, ◌∙◌, subst, ⊎_elim, mod-lt, suc-mul, div-lt_iff_lt-mul, arith, length-append}
+use Rattle.std.proofs.Common.{◌≡◌, ℕ, zero, suc, ◌+◌, ◌-◌, ◌*◌, ◌/◌, ◌%◌, ◌<◌, ◌≤◌, eqb, List, [], ◌∷◌, ◌++◌, map, length, get_or, sym, refl, ap, ◌∙◌, subst, ⊎_elim, ap₂, mod-lt, suc-mul, div-lt_iff_lt-mul, arith, length-append}
 use native.Mathlib.Nat.{mod-add-div'}
 use Rattle.std.specs.List.{range_with_len}
 use Rattle.std.proofs.lemmas.List.{length-map}
@@ -63,6 +63,26 @@ at_each f a (suc n) w (suc q) l m y lens h e i =
     at_right (f a) (each f (range_with_len (a + 1) n)) (q * w + l) m y (omega arith)
     (at_each f (a + 1) n w q l (q * w + l) y (λ x p r. lens x (omega arith) (omega arith)) (omega arith) refl (subst (λ t. At (f t) l y) z i))
 
+-- the places that give a symbol of offset x past S, in row i
+module _ (s : Parameters) (x i : ℕ) where
+  pub local_last : (l : ℕ) → l ≡ 0 → At (local_places s x i) l (at i (step_node s (steps s)))
+  unfolding local_places
+  local_last l e = subst (λ l. At (local_places s x i) l (at i (step_node s (steps s)))) (sym e) refl
+
+  pub local_next : (l : ℕ) → l ≡ 1 → At (local_places s x i) l (at (wrap s (i + steps s)) i)
+  unfolding local_places
+  local_next l e = subst (λ l. At (local_places s x i) l (at (wrap s (i + steps s)) i)) (sym e) refl
+
+  pub local_past : (l : ℕ) → 2 ≤ l → l < reach s → At (local_places s x i) l (at i (wrap s (i + skip (s.k - x) (l - 1))))
+  unfolding local_places
+  local_past zero a b = absurd (omega arith)
+  local_past (suc zero) a b = absurd (omega arith)
+  local_past (suc (suc l)) a b = at_counted (λ m. at i (wrap s (i + skip (s.k - x) m))) 1 (reach s - 2) l (suc (suc l) - 1) (omega arith) (omega arith)
+
+  -- a place, from its row and node
+  pub local_read : (l r m r' m' : ℕ) → At (local_places s x i) l (at r' m') → r ≡ r' → m ≡ m' → at r m ≡ get_or (local_places s x i) l (at r m)
+  local_read l r m r' m' h e f = ap₂ at e f ∙ at_read (local_places s x i) l (at r' m') (at r m) h
+
 abbrev pub entry : Part → Place → Entry
 entry part p = record { part = part; place = p }
 
@@ -82,14 +102,10 @@ module _ (s : Parameters) (j : ℕ) where
       ⊎_elim (λ z. ap length (far_row s j x z) ∙ row_length (wrap s (j + x)) ∙ sym (cond-true (eqb s.b 0) s.k (reach s) (eq-eqb s.b 0 z)))
       (λ n.
       let e = length-map-range_with_len (λ m. at (wrap s (j + x)) (wrap s (wrap s (j + x) + skip (s.k - x) m))) 1 (reach s - 2) in
-      let b : 1 ≤ s.b = positive s.b n in
+      let b : 1 ≤ s.b = omega arith in
       ap length (far_local s j x b) ∙ local_length x (wrap s (j + x)) far below ∙ sym (cond-false (eqb s.b 0) s.k (reach s) (ne_eqb s.b 0 n)))
       (cases_eq s.b 0)
     where
-      positive : (n : ℕ) → (n ≡ 0 → ⊥) → 1 ≤ n
-      positive zero h = absurd (h refl)
-      positive (suc n) h = omega arith
-
       local_length : (x i : ℕ) → steps s < x → x < s.k → length (local_places s x i) ≡ reach s
       local_length x i far below = let e = length-map-range_with_len (λ m. at i (wrap s (i + skip (s.k - x) m))) 1 (reach s - 2) in omega arith
 
@@ -171,27 +187,6 @@ module _ (s : Parameters) (j : ℕ) where
   unfolding row_places
   far_row_at x l z h =
       subst (λ ps. At ps l (at (wrap s (j + x)) (skip j l))) (sym (far_row s j x z)) (at_counted (λ c. at (wrap s (j + x)) (skip j c)) 0 s.k l l h (omega arith))
-
-  module _ (x : ℕ) (some : 1 ≤ s.b) where
-    far_local_at : (l : ℕ) (p : Place) → At (local_places s x (wrap s (j + x))) l p → At (far_places s j x) l p
-    far_local_at l p h = subst (λ ps. At ps l p) (sym (far_local s j x some)) h
-
-    pub last_at : At (far_places s j x) 0 (at (wrap s (j + x)) (step_node s (steps s)))
-    unfolding local_places
-    last_at = far_local_at 0 _ refl
-
-    pub next_at : At (far_places s j x) 1 (at (wrap s (wrap s (j + x) + steps s)) (wrap s (j + x)))
-    unfolding local_places
-    next_at = far_local_at 1 _ refl
-
-    pub past_at : (l : ℕ) → 2 ≤ l → l < reach s → At (far_places s j x) l (at (wrap s (j + x)) (wrap s (wrap s (j + x) + skip (s.k - x) (l - 1))))
-    unfolding local_places
-    past_at l a b = far_local_at l _ (go l a b)
-      where
-        go : (l : ℕ) → 2 ≤ l → l < reach s → At (local_places s x (wrap s (j + x))) l (at (wrap s (j + x)) (wrap s (wrap s (j + x) + skip (s.k - x) (l - 1))))
-        go zero a b = absurd (omega arith)
-        go (suc zero) a b = absurd (omega arith)
-        go (suc (suc l)) a b = at_counted (λ m. at (wrap s (j + x)) (wrap s (wrap s (j + x) + skip (s.k - x) m))) 1 (reach s - 2) l (suc (suc l) - 1) (omega arith) (omega arith)
 
 -- an index past the steps: its offset, and the index among the places of that offset
 pub far_index : (s : Parameters) (rest : ℕ) → rest < (reach s - 1) * far_width s → 1 ≤ far_width s

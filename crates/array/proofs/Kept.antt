@@ -1,8 +1,9 @@
 -- The data nodes of an offset and more in a row, node rising. Assumes nothing.
-use Rattle.std.proofs.Common.{◌≡◌, ℕ, ◌+◌, ◌-◌, ◌*◌, ◌<◌, ◌≤◌, cond, ltb, List, [], map, length, sym, ap, ◌∙◌, subst, ⊎_elim, arith}
+use Rattle.std.proofs.Common.{◌≡◌, ℕ, ◌+◌, ◌-◌, ◌*◌, ◌<◌, ◌≤◌, List, [], map, length, sym, ap, ◌∙◌, subst, ⊎_elim, arith}
 use Rattle.std.specs.List.{range_with_len}
 use Rattle.std.proofs.lemmas.List.FromFn.{length-map-range_with_len}
-use Rattle.std.proofs.lemmas.Bool.{cases_lt, cond-true, cond-false, lt-ltb, le-ltb}
+use Rattle.std.proofs.lemmas.Bool.Decides.{nat_tests}
+use Rattle.std.proofs.lemmas.Bool.{cases_lt}
 use Rattle.sheet.specs.declared.place.Place.{Place}
 use Rattle.sheet.specs.Places.{at, distinct}
 use Rattle.array.specs.declared.parameters.Parameters.{Parameters}
@@ -12,71 +13,27 @@ use Rattle.array.proofs.Members.{In, in_map, in_counting, in_each, from_map, fro
 use Rattle.array.proofs.Wraps.{offset_cases}
 use Rattle.array.proofs.Once.{once_map, distinct_once, distinct_each, length_each}
 
--- which node is listed at c
-pub data Kept (t i c : ℕ) : Type 0 where
-  around : i + 1 < t → kept_node t i c ≡ c + (i + 1) → Kept t i c
-  before : t ≤ i + 1 → c < i + 1 - t → kept_node t i c ≡ c → Kept t i c
-  past : t ≤ i + 1 → i + 1 - t ≤ c → kept_node t i c ≡ c + t → Kept t i c
-
-pub kept : (t i c : ℕ) → Kept t i c
-kept t i c =
-    ⊎_elim (λ h. around h (cond-true (ltb (i + 1) t) _ _ (lt-ltb (i + 1) t h)))
-    (λ h.
-    let e = cond-false (ltb (i + 1) t) (c + (i + 1)) (cond (ltb c (i + 1 - t)) c (c + t)) (le-ltb (i + 1) t h) in
-    ⊎_elim (λ l. before h l (e ∙ cond-true (ltb c (i + 1 - t)) _ _ (lt-ltb c (i + 1 - t) l)))
-    (λ g. past h g (e ∙ cond-false (ltb c (i + 1 - t)) _ _ (le-ltb c (i + 1 - t) g))) (cases_lt c (i + 1 - t)))
-    (cases_lt (i + 1) t)
-
+-- the nodes rise, stay below k, and are those of the offset t and more
 pub kept_rises : (t i l m : ℕ) → l < m → kept_node t i l < kept_node t i m
-kept_rises t i l m h = go (kept t i l) (kept t i m)
-  where
-    go : Kept t i l → Kept t i m → kept_node t i l < kept_node t i m
-    go (around a e) (around b f) = omega arith
-    go (around a e) (before b c f) = omega arith
-    go (around a e) (past b c f) = omega arith
-    go (before a p e) (around b f) = omega arith
-    go (before a p e) (before b c f) = omega arith
-    go (before a p e) (past b c f) = omega arith
-    go (past a p e) (around b f) = omega arith
-    go (past a p e) (before b c f) = omega arith
-    go (past a p e) (past b c f) = omega arith
+kept_rises t i l m h = grind (arith, nat_tests)
 
 module _ (s : Parameters) (t i : ℕ) (hi : i < s.k) where
   pub kept_below : (l : ℕ) → l < s.k - t → kept_node t i l < s.k
-  kept_below l h = go (kept t i l)
-    where
-      go : Kept t i l → kept_node t i l < s.k
-      go (around a e) = omega arith
-      go (before a p e) = omega arith
-      go (past a p e) = omega arith
+  kept_below l h = grind (arith, nat_tests)
 
   pub kept_offset : (l : ℕ) → l < s.k - t → t ≤ offset s i (kept_node t i l)
-  kept_offset l h = let b = kept_below l h in ⊎_elim (λ c. go c.0 c.1 (kept t i l)) (λ c. up c.0 c.1 (kept t i l)) (offset_cases s i (kept_node t i l) hi b)
-    where
-      go : kept_node t i l ≤ i → offset s i (kept_node t i l) ≡ i - kept_node t i l → Kept t i l → t ≤ offset s i (kept_node t i l)
-      go a o (around b e) = omega arith
-      go a o (before b p e) = omega arith
-      go a o (past b p e) = omega arith
-
-      up : i < kept_node t i l → offset s i (kept_node t i l) ≡ i + s.k - kept_node t i l → Kept t i l → t ≤ offset s i (kept_node t i l)
-      up a o (around b e) = omega arith
-      up a o (before b p e) = omega arith
-      up a o (past b p e) = omega arith
+  kept_offset l h = let b = kept_below l h in ⊎_elim (λ c. let e = c.1 in grind (arith, nat_tests)) (λ c. let e = c.1 in grind (arith, nat_tests)) (offset_cases s i (kept_node t i l) hi b)
 
   pub kept_onto : (c : ℕ) → c < s.k → t ≤ offset s i c → (l : ℕ) × (l < s.k - t) × (kept_node t i l ≡ c)
   kept_onto c hc h =
       ⊎_elim
-      (λ a. (
-        c - (i + 1),
-        ⊎_elim (λ o. omega (arith, o.0, o.1)) (λ o. omega (arith, o.0, o.1)) (offset_cases s i c hi hc),
-        cond-true (ltb (i + 1) t) _ _ (lt-ltb (i + 1) t a) ∙ ⊎_elim (λ o. omega (arith, o.0, o.1)) (λ o. omega (arith, o.0, o.1)) (offset_cases s i c hi hc),
-      ))
-      (λ a.
-      ⊎_elim
-      (λ o. (c, omega (arith, o.0, o.1), cond-false (ltb (i + 1) t) _ _ (le-ltb (i + 1) t a) ∙ cond-true (ltb c (i + 1 - t)) _ _ (lt-ltb c (i + 1 - t) (omega (arith, o.0, o.1)))))
-      (λ o. (c - t, omega (arith, o.0, o.1), cond-false (ltb (i + 1) t) _ _ (le-ltb (i + 1) t a) ∙ cond-false (ltb (c - t) (i + 1 - t)) _ _ (le-ltb (c - t) (i + 1 - t) (omega (arith, o.0, o.1))) ∙ omega (arith, o.0, o.1)))
-      (offset_cases s i c hi hc))
-      (cases_lt (i + 1) t)
+      (λ o.
+      let (a, e) = o in
+      ⊎_elim (λ b. (c, omega arith, grind (arith, nat_tests))) (λ b. (c, omega arith, grind (arith, nat_tests))) (cases_lt (i + 1) t))
+      (λ o.
+      let (a, e) = o in
+      ⊎_elim (λ b. (c - (i + 1), omega arith, grind (arith, nat_tests))) (λ b. (c - t, omega arith, grind (arith, nat_tests))) (cases_lt (i + 1) t))
+      (offset_cases s i c hi hc)
 
 module _ (s : Parameters) (t : ℕ) where
   abbrev row_of : ℕ → List Place

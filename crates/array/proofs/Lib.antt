@@ -1,4 +1,3 @@
-pub mod Checks
 pub mod Members
 pub mod Once
 pub mod Wraps
@@ -10,5 +9,4 @@ pub mod Size
 pub mod Standing
 pub mod Slots
 pub mod Turns
-pub mod Ways
 pub mod Indexed

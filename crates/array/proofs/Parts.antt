@@ -1,8 +1,9 @@
 -- What the listing of a data node has. Assumes nothing.
-use Rattle.std.proofs.Common.{◌≡◌, ℕ, ◌+◌, ◌-◌, ◌<◌, ◌≤◌, eqb, List, [], ◌∷◌, ◌++◌, map, sym, refl, ap, ◌∙◌, subst, ap₂, inl, inr, ⊎_elim, arith}
+use Rattle.std.proofs.Common.{◌≡◌, ℕ, ◌+◌, ◌-◌, ◌<◌, ◌≤◌, List, [], ◌∷◌, ◌++◌, map, sym, refl, ap, ◌∙◌, subst, ap₂, inl, inr, ⊎_elim, arith}
 use Rattle.std.specs.List.{range_with_len}
 use Rattle.std.proofs.lemmas.List.{map-append}
-use Rattle.std.proofs.lemmas.Bool.{cases_lt, cond-true, cond-false, eq-eqb, ne_eqb}
+use Rattle.std.proofs.lemmas.Bool.Decides.{nat_tests}
+use Rattle.std.proofs.lemmas.Bool.{cases_lt}
 use Rattle.array.specs.declared.parameters.Parameters.{Parameters}
 use Rattle.sheet.specs.declared.place.Place.{Place}
 use Rattle.sheet.specs.declared.place.Entry.{Entry}
@@ -11,9 +12,9 @@ use Rattle.sheet.specs.declared.place.Part.TheVariants.{First, Second, Third, Fo
 use Rattle.array.specs.Layout.{steps, reach, wrap, step_node, skip}
 use Rattle.sheet.specs.Places.{at, in_part, places_of}
 use Rattle.array.specs.Each.{each}
-use Rattle.array.specs.Sheet.{row_places, step_places, local_places, far_places, far_offsets, entries, listing}
-use Rattle.array.proofs.Members.{In, in_left, in_right, in_map, in_counting, in_each}
-use Rattle.array.proofs.Wraps.{skip_onto, skip_cases}
+use Rattle.array.specs.Sheet.{row_places, step_places, local_places, far_places, far_offsets, entries, listing, sheet}
+use Rattle.array.proofs.Members.{In, in_left, in_right, in_append, in_map, in_counting, in_each, from_counting, from_each, from_distinct}
+use Rattle.array.proofs.Wraps.{skip_onto}
 
 pub unpart : (part : Part) (ps : List Place) → map (λ (e : Entry). e.place) (in_part part ps) ≡ ps
 unpart part [] = refl
@@ -67,11 +68,31 @@ module _ (s : Parameters) (j : ℕ) where
 
   pub far_row : (x : ℕ) → s.b ≡ 0 → far_places s j x ≡ row_places s j (wrap s (j + x))
   unfolding far_places
-  far_row x e = cond-true (eqb s.b 0) _ _ (eq-eqb s.b 0 e)
+  far_row x e = grind (arith, nat_tests)
 
   pub far_local : (x : ℕ) → 1 ≤ s.b → far_places s j x ≡ local_places s x (wrap s (j + x))
   unfolding far_places
-  far_local x h = cond-false (eqb s.b 0) _ _ (ne_eqb s.b 0 (λ e. omega arith))
+  far_local x h = grind (arith, nat_tests)
+
+-- what holds of each part's places holds of the sheet's
+pub by_part : (s : Parameters) (j : ℕ) (P : Place → Type 0) → ((p : Place) → In p (row_places s j j) → P p)
+    → ((t l : ℕ) → 1 ≤ t → t + l ≤ steps s + 1 → (p : Place) → In p (step_places s j t l) → P p)
+    → ((x : ℕ) → steps s < x → x < s.k → (p : Place) → In p (far_places s j x) → P p) → (p : Place) → In p (sheet s j) → P p
+unfolding sheet
+by_part s j P row step far p h =
+    ⊎_elim (row p)
+    (λ r.
+    ⊎_elim (step 1 s.tau (omega arith) (omega arith) p)
+    (λ q.
+    ⊎_elim (step (s.tau + 1) s.b (omega arith) (omega arith) p)
+    (λ t.
+    let (x, g, f) = from_each (far_places s j) p (far_offsets s) t in
+    let (a, b) = from_counting x (steps s + 1) (reach s - 1) g in
+    far x (omega arith) (omega arith) p f)
+    (in_append p (step_places s j (s.tau + 1) s.b) (each (far_places s j) (far_offsets s)) q))
+    (in_append p (step_places s j 1 s.tau) (step_places s j (s.tau + 1) s.b ++ each (far_places s j) (far_offsets s)) r))
+    (in_append p (row_places s j j) (step_places s j 1 s.tau ++ (step_places s j (s.tau + 1) s.b ++ each (far_places s j) (far_offsets s)))
+    (subst (λ ps. In p ps) (listing_parts s j) (from_distinct (listing s j) p h)))
 
 pub in_local_node : (s : Parameters) (x i : ℕ) → In (at i (step_node s (steps s))) (local_places s x i)
 unfolding local_places
@@ -91,4 +112,4 @@ in_local_past s x i m hx hs h1 h2 n =
     (in_map f l (range_with_len 1 (reach s - 2)) (in_counting l 1 (reach s - 2) p q))))
   where
     bounds : (l : ℕ) → l ≤ m → m ≤ l + 1 → (s.k - x < m → m ≡ l + 1) → skip (s.k - x) l ≡ m → (1 ≤ l) × (l < 1 + (reach s - 2))
-    bounds l a b g e = ⊎_elim (λ h. let r = g h in (omega arith, omega arith)) (λ h. ⊎_elim (λ c. (omega (arith, c.0, c.1, n), omega (arith, c.0, c.1))) (λ c. absurd (omega (arith, c.0, c.1))) (skip_cases (s.k - x) l)) (cases_lt (s.k - x) m)
+    bounds l a b g e = ⊎_elim (λ h. let r = g h in (omega arith, omega arith)) (λ h. (grind (arith, nat_tests), grind (arith, nat_tests))) (cases_lt (s.k - x) m)

@@ -1,6 +1,7 @@
 -- The symbols at the places of its read sheet give back every symbol of a data node. Assumes nothing.
-use Rattle.std.proofs.Common.{◌≡◌, ℕ, zero, suc, ◌+◌, ◌-◌, ◌<◌, ◌≤◌, Bool, true, false, cond, eqb, ltb, leb, sym, refl, ap, ◌∙◌, subst, ap₂, inl, ⊎_elim, arith}
-use Rattle.std.proofs.lemmas.Bool.{cases_lt, cases_eq, cond-true, cond-false, cond_both, eq-eqb, ne_eqb, lt-ltb, le-ltb, le-leb, lt-leb, eqb-true, eqb-false, leb-true, leb-false}
+use Rattle.std.proofs.Common.{◌≡◌, ℕ, zero, suc, ◌+◌, ◌-◌, ◌<◌, ◌≤◌, Bool, true, false, cond, eqb, leb, sym, refl, ap, ◌∙◌, subst, ap₂, inl, ⊎_elim, arith}
+use Rattle.std.proofs.lemmas.Bool.Decides.{nat_tests}
+use Rattle.std.proofs.lemmas.Bool.{cases_lt, cases_eq, cond-true, cond-false, cond_both, eq-eqb, ne_eqb, eqb-true, eqb-false, leb-true, leb-false}
 use Rattle.field.specs.Laws.{Operations, FieldLaws}
 use Rattle.row.specs.Interpolation.{sum_below, Apart, Meets}
 use Rattle.row.proofs.Algebra.{sum_comm, sum_assoc, sum_zero, difference_unique}
@@ -13,7 +14,7 @@ use Rattle.array.specs.Sheet.{row_places, local_places, listing, sheet}
 use Rattle.array.specs.Recovered.{around, by_local, recovered_at, recovered}
 use Rattle.array.specs.Theorems.{Recovers}
 use Rattle.array.proofs.Members.{In, listed_in, in_distinct}
-use Rattle.array.proofs.Wraps.{wrapped, wrapped_is, offset_below, offset_row, offset_node, skip_cases, skip_injective}
+use Rattle.array.proofs.Wraps.{wrapped, wrapped_is, offset_below, offset_row, offset_node, skip_bounds, skip_injective}
 use Rattle.array.proofs.Parts.{in_row_places, in_row, in_own, in_step, in_far, far_row, far_local, in_local_node, in_local_step, in_local_past}
 
 module _ {F : Type 0} {o : Operations F} (laws : FieldLaws o) where
@@ -68,27 +69,26 @@ module _ {F : Type 0} {o : Operations F} (laws : FieldLaws o) where
   module _ (symbol : ℕ → F) (s : Parameters) (d : ℕ → ℕ → F) (i : ℕ) where
     pub array_data : (m : ℕ) → m < s.k → array o symbol s d i m ≡ d i m
     unfolding array
-    array_data m h = cond-true (ltb m s.k) _ _ (lt-ltb m s.k h)
+    array_data m h = grind (arith, nat_tests)
 
     pub array_plain : (m : ℕ) → s.k ≤ m → m < first_step s → array o symbol s d i m ≡ row_symbol o symbol s d i m
     unfolding array
-    array_plain m h g = cond-false (ltb m s.k) _ _ (le-ltb m s.k h) ∙ cond-true (ltb m (first_step s)) _ _ (lt-ltb m (first_step s) g)
-
-    array_step : (t : ℕ) → 1 ≤ t
-        → array o symbol s d i (step_node s t)
-        ≡ cond (leb t s.tau) (row_symbol o symbol s d i (step_node s t) ⊕ d (wrap s (i + t)) i) (d (wrap s (i + t)) i ⊕ past o s d i t)
-    unfolding array
-    array_step t h =
-        let m = step_node s t in
-        let e : step_of s m ≡ t = omega arith in
-        cond-false (ltb m s.k) _ _ (le-ltb m s.k (omega arith)) ∙ cond-false (ltb m (first_step s)) _ _ (le-ltb m (first_step s) (omega arith))
-        ∙ ap (λ t. cond (leb t s.tau) (row_symbol o symbol s d i m ⊕ d (wrap s (i + t)) i) (d (wrap s (i + t)) i ⊕ past o s d i t)) e
+    array_plain m h g = grind (arith, nat_tests)
 
     pub array_piggyback : (t : ℕ) → 1 ≤ t → t ≤ s.tau → array o symbol s d i (step_node s t) ≡ row_symbol o symbol s d i (step_node s t) ⊕ d (wrap s (i + t)) i
-    array_piggyback t h g = array_step t h ∙ cond-true (leb t s.tau) _ _ (le-leb t s.tau g)
+    unfolding array
+    array_piggyback t h g =
+        let e : step_of s (step_node s t) ≡ t = omega arith in
+        let w = ap (λ t. d (wrap s (i + t)) i) e in
+        grind (arith, nat_tests)
 
     pub array_local : (t : ℕ) → s.tau < t → array o symbol s d i (step_node s t) ≡ d (wrap s (i + t)) i ⊕ past o s d i t
-    array_local t g = array_step t (omega arith) ∙ cond-false (leb t s.tau) _ _ (lt-leb t s.tau g)
+    unfolding array
+    array_local t g =
+        let e : step_of s (step_node s t) ≡ t = omega arith in
+        let w = ap (λ t. d (wrap s (i + t)) i) e in
+        let p = ap (past o s d i) e in
+        grind (arith, nat_tests)
 
   module _ {size : ℕ} {symbol : ℕ → F} (apart : Apart symbol size) (s : Parameters) (room : s.k < size) where
     -- the row begins with the data that it is made from
@@ -105,7 +105,7 @@ module _ {F : Type 0} {o : Operations F} (laws : FieldLaws o) where
 
     module _ (d v : ℕ → ℕ → F) (j : ℕ) where
       skip_within : (l : ℕ) → l < s.k → skip j l ≤ s.k
-      skip_within l h = ⊎_elim (λ c. omega (arith, c.1)) (λ c. omega (arith, c.1)) (skip_cases j l)
+      skip_within l h = omega (arith, skip_bounds j l)
 
       -- k nodes of a row give every other
       pub around_row : (i m : ℕ) → ((l : ℕ) → l < s.k → v i (skip j l) ≡ array o symbol s d i (skip j l)) → around o symbol s v j i m ≡ row_symbol o symbol s d i m
@@ -123,7 +123,7 @@ module _ {F : Type 0} {o : Operations F} (laws : FieldLaws o) where
     pub around_data : (v : ℕ → ℕ → F) (i m : ℕ) → around o symbol s v s.k i m ≡ row_symbol o symbol s v i m
     around_data v i m =
         around_row v v s.k i m
-        (λ l h. sym (array_data symbol s v i (skip s.k l) (⊎_elim (λ c. omega (arith, c.1)) (λ c. omega (arith, c.0)) (skip_cases s.k l))))
+        (λ l h. sym (array_data symbol s v i (skip s.k l) (grind (arith, nat_tests))))
 
     module _ (d v : ℕ → ℕ → F) (j : ℕ) (hj : j < s.k) where
       module _ (agree : Agree v (array o symbol s d) (sheet s j)) where
@@ -213,16 +213,12 @@ module _ {F : Type 0} {o : Operations F} (laws : FieldLaws o) where
           recovered_is x e =
               cond_both (eqb x 0) _ _ (λ t. t ≡ d i j) (λ z. own (e ∙ eqb-true x 0 z))
               (λ z.
-              cond_both (leb x s.tau) _ _ (λ t. t ≡ d i j) (λ a. by_piggyback x e (pos x (eqb-false x 0 z)) (leb-true x s.tau a))
+              cond_both (leb x s.tau) _ _ (λ t. t ≡ d i j) (λ a. by_piggyback x e (omega (arith, eqb-false x 0 z)) (leb-true x s.tau a))
               (λ a.
               cond_both (leb x (steps s)) _ _ (λ t. t ≡ d i j) (λ b. by_step x e (leb-false x s.tau a) (leb-true x (steps s) b))
               (λ b.
               cond_both (eqb s.b 0) _ _ (λ t. t ≡ d i j) (λ c. by_row x e (leb-false x (steps s) b) (eqb-true s.b 0 c))
-              (λ c. local_is x e (leb-false x (steps s) b) (pos s.b (eqb-false s.b 0 c))))))
-            where
-              pos : (n : ℕ) → (n ≡ 0 → ⊥) → 1 ≤ n
-              pos zero h = absurd (h refl)
-              pos (suc n) h = omega arith
+              (λ c. local_is x e (leb-false x (steps s) b) (omega (arith, eqb-false s.b 0 c))))))
 
   pub recovers : {size : ℕ} {symbol : ℕ → F} → Apart symbol size → Recovers o symbol size
   unfolding recovered

@@ -1,19 +1,19 @@
 -- Every node from the places of its read sheet. Assumes nothing.
 use Rattle.std.proofs.Common.{◌≡◌, ℕ, ◌+◌, ◌-◌, ◌*◌, ◌<◌, ◌≤◌, ltb, length, sym, ap, ◌∙◌, subst, ap₂, ⊎_elim, arith}
+use Rattle.std.proofs.lemmas.Bool.Decides.{nat_tests}
 use Rattle.std.proofs.lemmas.Bool.{cases_lt, cond-true, cond-false, lt-ltb, le-ltb}
 use Rattle.field.specs.Laws.{Operations, FieldLaws}
 use Rattle.row.specs.Interpolation.{basis, Apart}
 use Rattle.row.proofs.Lagrange.{sum_as, exists, row_rule}
-use Rattle.sheet.specs.declared.place.Place.{Place}
 use Rattle.sheet.specs.declared.place.Part.TheVariants.{First}
 use Rattle.sheet.specs.Places.{at, distinct, places_of, in_part, sheet_of, Agree}
 use Rattle.array.specs.declared.parameters.Parameters.{Parameters}
-use Rattle.array.specs.Layout.{nodes, steps, wrap, offset, first_step, step_node, step_of}
+use Rattle.array.specs.Layout.{steps, wrap, offset, first_step, step_node, step_of}
 use Rattle.array.specs.Symbols.{row_symbol, past, array}
 use Rattle.array.specs.Sheet.{entries, listing, sheet, offset_places, least_offset, mend_entries, node_sheet}
-use Rattle.array.specs.Recovered.{recovered, restored}
+use Rattle.array.specs.Recovered.{restored}
 use Rattle.array.specs.Theorems.{Rows, Restores, SizedClassA, SizedClassB, ParityPlaces}
-use Rattle.array.proofs.Members.{In, listed_in, in_listed, in_distinct, from_distinct}
+use Rattle.array.proofs.Members.{In, listed_in, in_listed}
 use Rattle.array.proofs.Wraps.{wrapped, offset_step, offset_past}
 use Rattle.array.proofs.Parts.{unpart}
 use Rattle.array.proofs.Kept.{in_offset, from_offset, offset_once, offset_length}
@@ -23,11 +23,11 @@ use Rattle.array.proofs.Recovery.{sum_to_as, array_data, array_plain, array_pigg
 module _ (s : Parameters) (m : ℕ) where
   pub entries_data : m < s.k → mend_entries s m ≡ entries s m
   unfolding mend_entries
-  entries_data h = cond-true (ltb m s.k) _ _ (lt-ltb m s.k h)
+  entries_data h = grind (arith, nat_tests)
 
   pub entries_parity : s.k ≤ m → mend_entries s m ≡ in_part First (offset_places s (least_offset s m))
   unfolding mend_entries
-  entries_parity h = cond-false (ltb m s.k) _ _ (le-ltb m s.k h)
+  entries_parity h = grind (arith, nat_tests)
 
   pub places_parity : s.k ≤ m → places_of (mend_entries s m) ≡ offset_places s (least_offset s m)
   unfolding places_of
@@ -42,19 +42,10 @@ module _ (s : Parameters) (m : ℕ) where
   sheet_parity h = ap distinct (places_parity h) ∙ offset_once s (least_offset s m)
 
   pub least_a : m < s.k + s.a → least_offset s m ≡ 0
-  least_a h = cond-true (ltb m (s.k + s.a)) 0 (step_of s m) (lt-ltb m (s.k + s.a) h)
+  least_a h = grind (arith, nat_tests)
 
   pub least_b : s.k + s.a ≤ m → least_offset s m ≡ step_of s m
-  least_b h = cond-false (ltb m (s.k + s.a)) 0 (step_of s m) (le-ltb m (s.k + s.a) h)
-
-  -- the listing has the sheet's places
-  pub in_sheet : (p : Place) → In p (places_of (mend_entries s m)) → In p (node_sheet s m)
-  unfolding node_sheet sheet_of
-  in_sheet p h = in_distinct (places_of (mend_entries s m)) p h
-
-  pub from_sheet : (p : Place) → In p (node_sheet s m) → In p (places_of (mend_entries s m))
-  unfolding node_sheet sheet_of
-  from_sheet p h = from_distinct (places_of (mend_entries s m)) p h
+  least_b h = grind (arith, nat_tests)
 
 pub sized_class_a : SizedClassA
 sized_class_a s m a b =
@@ -136,12 +127,6 @@ module _ {F : Type 0} {o : Operations F} (laws : FieldLaws o) {size : ℕ} {symb
       (cases_lt m (s.k + s.a)))
       (cases_lt m s.k)
 
-  -- the same from the listing
-  pub restores_listed : (s : Parameters) → s.k + s.a ≤ size → (d v : ℕ → ℕ → F) (m : ℕ) → m < nodes s
-      → Agree v (array o symbol s d) (places_of (mend_entries s m)) → (i : ℕ) → i < s.k → restored o symbol s v m i ≡ array o symbol s d i m
-  restores_listed s room d v m hm agree =
-      restores s room d v m hm (λ i c e. agree i c (listed_in (places_of (mend_entries s m)) (at i c) (from_sheet s m (at i c) (in_listed (node_sheet s m) (at i c) e))))
-
 -- a step's node, as the code has it
 module _ {F : Type 0} {o : Operations F} (laws : FieldLaws o) (symbol : ℕ → F) (s : Parameters) (v : ℕ → ℕ → F) (i m t : ℕ) (is : t ≡ step_of s m) (far : first_step s ≤ m) where
   node_is : step_node s t ≡ m
@@ -153,13 +138,3 @@ module _ {F : Type 0} {o : Operations F} (laws : FieldLaws o) (symbol : ℕ → 
 
   pub coded_local : s.tau < t → o.sum (v (wrap s (i + t)) i) (past o s v i t) ≡ array o symbol s v i m
   coded_local h = subst (λ m. o.sum (v (wrap s (i + t)) i) (past o s v i t) ≡ array o symbol s v i m) node_is (sym (array_local laws symbol s v i t h))
-
--- what is restored, node by node
-module _ {F : Type 0} (o : Operations F) (symbol : ℕ → F) (s : Parameters) (v : ℕ → ℕ → F) (m i : ℕ) where
-  pub restored_data : m < s.k → recovered o symbol s v m i ≡ restored o symbol s v m i
-  unfolding restored
-  restored_data h = sym (cond-true (ltb m s.k) _ _ (lt-ltb m s.k h))
-
-  pub restored_parity : s.k ≤ m → array o symbol s v i m ≡ restored o symbol s v m i
-  unfolding restored
-  restored_parity h = sym (cond-false (ltb m s.k) _ _ (le-ltb m s.k h))

@@ -11,7 +11,7 @@ use Rattle.array.specs.Each.{each}
 use Rattle.array.specs.Sheet.{row_places, step_places, local_places, far_places, far_offsets, sheet}
 use Rattle.array.specs.Theorems.{sheet_size, Sized, SizedRows}
 use Rattle.array.proofs.Members.{In, in_left, in_append, from_map, from_counting}
-use Rattle.array.proofs.Wraps.{wrapped, wrapped_is, skip_cases, skip_onto, skip_injective}
+use Rattle.array.proofs.Wraps.{wrapped, wrapped_is, skip_bounds, skip_onto, skip_injective, row_not, rows_apart}
 use Rattle.array.proofs.Parts.{listing_parts, in_row_places, far_row, far_local}
 use Rattle.array.proofs.Restoring.{sheet_data}
 use Rattle.array.proofs.Once.{Once, Disjoint, once_map, distinct_append, distinct_new, distinct_old, distinct_once, distinct_each, disjoint_append, length_each, length_each_but}
@@ -28,7 +28,7 @@ module _ (s : Parameters) where
       let (c, g, e) = from_map (λ c. at i (skip j c)) p (range_with_len 0 s.k) h in
       let (a, b) = from_counting c 0 s.k g in
       let n : p.node ≡ skip j c = ap (λ q. q.node) e in
-      (ap (λ q. q.row) e, ⊎_elim (λ t. omega (arith, t.1)) (λ t. omega (arith, t.1)) (skip_cases j c))
+      (ap (λ q. q.row) e, omega (arith, skip_bounds j c))
 
   in_step_part : (j t n : ℕ) → (p : Place) → In p (step_places s j t n) → (l : ℕ) × (t ≤ l) × (l < t + n) × (p.row ≡ j) × (p.node ≡ step_node s l)
   unfolding step_places
@@ -74,7 +74,7 @@ module _ (s : Parameters) where
         )
       where
         within : (m : ℕ) → 1 ≤ m → m < 1 + (reach s - 2) → (1 ≤ skip (s.k - x) m) × (skip (s.k - x) m < reach s)
-        within m a b = ⊎_elim (λ c. (omega (arith, c.1), omega (arith, c.1))) (λ c. (omega (arith, c.1), omega (arith, c.1))) (skip_cases (s.k - x) m)
+        within m a b = (omega (arith, skip_bounds (s.k - x) m), omega (arith, skip_bounds (s.k - x) m))
 
     once_pasts : Once pasts
     once_pasts =
@@ -91,7 +91,7 @@ module _ (s : Parameters) where
         omega arith)
       where
         within : (m : ℕ) → m < 1 + (reach s - 2) → skip (s.k - x) m < reach s
-        within m b = ⊎_elim (λ c. omega (arith, c.1)) (λ c. omega (arith, c.1)) (skip_cases (s.k - x) m)
+        within m b = omega (arith, skip_bounds (s.k - x) m)
 
     -- the row of a symbol of offset S
     step_row : wrap s (i + steps s) ≡ i → ⊥
@@ -210,20 +210,8 @@ module _ (s : Parameters) where
         ∙ distinct_append (A ++ B) C rest
         ∙ ap (λ t. distinct_from t rest) (distinct_once (A ++ B) C (once_step j (s.tau + 1) s.b (omega arith)) apart_2)
 
-    far_row_of : (x : ℕ) → ℕ
-    far_row_of x = wrap s (j + x)
-
     row_below : (x : ℕ) → x < s.k → wrap s (j + x) < s.k
     row_below x h = (wrapped s (j + x) (omega arith)).below
-
-    row_not : (x : ℕ) → 1 ≤ x → x < s.k → wrap s (j + x) ≡ j → ⊥
-    row_not x a b e = let w = wrapped s (j + x) (omega arith) in ⊎_elim (λ f. omega arith) (λ f. omega arith) w.either
-
-    rows_apart : (x y : ℕ) → x < y → y < s.k → wrap s (j + x) ≡ wrap s (j + y) → ⊥
-    rows_apart x y a b e =
-        let u = wrapped s (j + x) (omega arith) in
-        let w = wrapped s (j + y) (omega arith) in
-        ⊎_elim (λ f. ⊎_elim (λ g. omega arith) (λ g. omega arith) w.either) (λ f. ⊎_elim (λ g. omega arith) (λ g. omega arith) w.either) u.either
 
     -- the row of the symbol of offset S for the offset x
     step_row_is : (x : ℕ) → x < s.k → (x + steps s ≡ s.k → wrap s (wrap s (j + x) + steps s) ≡ j) × ((x + steps s ≡ s.k → ⊥) → steps s < x → wrap s (wrap s (j + x) + steps s) ≡ j → ⊥)
@@ -248,14 +236,14 @@ module _ (s : Parameters) where
           ∙ distinct_local x i far below hi seen
           (λ e.
           let r = (step_row_is x below).0 e in
-          let (c, q, a, b, g) = skip_onto j i (row_not x (omega arith) below) in
+          let (c, q, a, b, g) = skip_onto j i (row_not s j x hj (omega arith) below) in
           has _ (subst (λ p. In p (row_places s j j)) (ap₂ at (sym r) q) (in_row_places s j j c (omega arith)))) new
 
       apart_head : (x : ℕ) → steps s < x → x < s.k → Disjoint head (kept x)
       apart_head x far below p a b =
           let i = wrap s (j + x) in
           let r = head_row p a in
-          ⊎_elim (λ t. row_not x (omega arith) below (sym t.0 ∙ r))
+          ⊎_elim (λ t. row_not s j x hj (omega arith) below (sym t.0 ∙ r))
           (λ t. (step_row_is x below).1 t.1 far (sym (ap (λ q. q.row) t.0) ∙ r))
           (in_trimmed x i far below (row_below x below) p b)
 
@@ -263,7 +251,7 @@ module _ (s : Parameters) where
       apart_each x y far less below p a b =
           let hx = row_below x (omega arith) in
           let hy = row_below y below in
-          let n = rows_apart x y less below in
+          let n : wrap s (j + x) ≡ wrap s (j + y) → ⊥ = λ e. let f = rows_apart s j x y hj (omega arith) below e in omega arith in
           ⊎_elim
           (λ t. ⊎_elim (λ u. n (sym t.0 ∙ u.0)) (λ u. t.1 (subst (λ q. Step q) (sym u.0) (step_is y (wrap s (j + y)) (omega arith) below hy))) (in_trimmed y (wrap s (j + y)) (omega arith) below hy p b))
           (λ t. ⊎_elim (λ u. u.1 (subst (λ q. Step q) (sym t.0) (step_is x (wrap s (j + x)) far (omega arith) hx))) (λ u. n (sym (ap (λ q. q.node) t.0) ∙ ap (λ q. q.node) u.0)) (in_trimmed y (wrap s (j + y)) (omega arith) below hy p b))
@@ -310,9 +298,9 @@ module _ (s : Parameters) where
           ∙ distinct_head (each (far_places s j) (far_offsets s))
           ∙ distinct_each [] (far_places s j) rows (steps s + 1) (reach s - 1)
           (λ x a b seen has new. ap (distinct_from seen) (far_row s j x none) ∙ distinct_once seen (rows x) (once_row j (wrap s (j + x))) new)
-          (λ x y a b c p g h. rows_apart x y b (omega arith) (sym (in_row_part j (wrap s (j + x)) hj p g).0 ∙ (in_row_part j (wrap s (j + y)) hj p h).0))
+          (λ x y a b c p g h. let e = rows_apart s j x y hj (omega arith) (omega arith) (sym (in_row_part j (wrap s (j + x)) hj p g).0 ∙ (in_row_part j (wrap s (j + y)) hj p h).0) in omega arith)
           head (λ p h. absurd h)
-          (λ x a b p g h. row_not x (omega arith) (omega arith) (sym (in_row_part j (wrap s (j + x)) hj p h).0 ∙ head_row p g))
+          (λ x a b p g h. row_not s j x hj (omega arith) (omega arith) (sym (in_row_part j (wrap s (j + x)) hj p h).0 ∙ head_row p g))
 
       pub size_of_rows : length (sheet s j) ≡ s.k + s.tau + (s.k - s.tau - 1) * s.k
       unfolding row_places

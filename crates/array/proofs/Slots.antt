@@ -1,18 +1,18 @@
 -- Each place of a sheet has a record of its own in the working memory. Assumes nothing.
-use Rattle.std.proofs.Common.{◌≡◌, ℕ, zero, suc, ◌+◌, ◌-◌, ◌*◌, ◌/◌, ◌<◌, ◌≤◌, true, cond, ◌&&◌, eqb, ltb, leb, ◌⊎◌, ◌++◌, sym, refl, ap, ◌∙◌, subst, ap₂, inl, inr, ⊎_elim, mul-le-mul_left, mul-add, arith}
+use Rattle.std.proofs.Common.{◌≡◌, ℕ, ◌+◌, ◌-◌, ◌*◌, ◌/◌, ◌<◌, ◌≤◌, true, cond, eqb, leb, ◌⊎◌, sym, refl, ap, ◌∙◌, subst, ap₂, inl, inr, ⊎_elim, mul-le-mul_left, mul-add, arith}
 use native.Mathlib.Nat.{mul-add-div, div-eq_of_lt}
 use Rattle.std.specs.List.{range_with_len}
-use Rattle.std.proofs.lemmas.Bool.{cases_lt, cases_eq, cond-true, cond-false, and_from, eq-eqb, ne_eqb, lt-ltb, le-ltb, le-leb, lt-leb}
+use Rattle.std.proofs.lemmas.Bool.Decides.{nat_tests}
+use Rattle.std.proofs.lemmas.Bool.{cases_lt, cases_eq}
 use Rattle.sheet.specs.declared.place.Place.{Place}
 use Rattle.sheet.specs.Places.{at, listed}
 use Rattle.array.specs.declared.parameters.Parameters.{Parameters}
 use Rattle.array.specs.Layout.{nodes, steps, reach, wrap, first_step, step_node, step_of, skip}
-use Rattle.array.specs.Each.{each}
-use Rattle.array.specs.Sheet.{row_places, step_places, local_places, far_places, far_offsets, listing, sheet, least_offset, node_sheet, given_row, slot}
+use Rattle.array.specs.Sheet.{row_places, step_places, local_places, far_places, sheet, least_offset, node_sheet, given_row, slot}
 use Rattle.array.specs.Theorems.{Slots}
-use Rattle.array.proofs.Members.{In, in_append, from_map, from_counting, from_each, in_listed, from_distinct}
-use Rattle.array.proofs.Wraps.{wrapped, wrapped_is, skip_cases}
-use Rattle.array.proofs.Parts.{listing_parts, far_row, far_local}
+use Rattle.array.proofs.Members.{In, from_map, from_counting, in_listed}
+use Rattle.array.proofs.Wraps.{wrapped, wrapped_is, skip_bounds, row_not, rows_apart}
+use Rattle.array.proofs.Parts.{far_row, far_local, by_part}
 use Rattle.array.proofs.Kept.{from_offset}
 use Rattle.array.proofs.Restoring.{sheet_data, sheet_parity}
 use Rattle.array.proofs.Standing.{node_fine}
@@ -32,26 +32,25 @@ pair_below k r u a b =
     omega arith
 
 module _ (s : Parameters) (m i c : ℕ) where
-  slot_inside : i < s.k → c < nodes s → slot s m i c ≡ cond (ltb c s.k) (s.k * i + c) (s.k * given_row s m i c + m)
-  unfolding slot
-  slot_inside a b = cond-true (ltb i s.k && ltb c (nodes s)) _ _ (and_from (ltb i s.k) (ltb c (nodes s)) (lt-ltb i s.k a) (lt-ltb c (nodes s) b))
-
   pub slot_data : i < s.k → c < s.k → slot s m i c ≡ s.k * i + c
-  slot_data a b = slot_inside a (omega arith) ∙ cond-true (ltb c s.k) _ _ (lt-ltb c s.k b)
+  unfolding slot
+  slot_data a b = grind (arith, nat_tests)
 
   pub slot_parity : i < s.k → s.k ≤ c → c < nodes s → slot s m i c ≡ s.k * given_row s m i c + m
-  slot_parity a b d = slot_inside a d ∙ cond-false (ltb c s.k) _ _ (le-ltb c s.k b)
+  unfolding slot
+  slot_parity a b d = grind (arith, nat_tests)
 
   given_plain : i ≡ m → c < first_step s → given_row s m i c ≡ m
-  given_plain e h = cond-true (eqb i m) _ _ (eq-eqb i m e) ∙ cond-true (ltb c (first_step s)) _ _ (lt-ltb c (first_step s) h)
+  given_plain e h = grind (arith, nat_tests)
 
   given_step : (t : ℕ) → i ≡ m → 1 ≤ t → c ≡ step_node s t → given_row s m i c ≡ wrap s (m + t)
   given_step t e a h =
       let u : step_of s c ≡ t = omega arith in
-      cond-true (eqb i m) _ _ (eq-eqb i m e) ∙ cond-false (ltb c (first_step s)) _ _ (le-ltb c (first_step s) (omega arith)) ∙ ap (λ n. wrap s (m + n)) u
+      let w = ap (λ n. wrap s (m + n)) u in
+      grind (arith, nat_tests)
 
   given_far : (i ≡ m → ⊥) → given_row s m i c ≡ i
-  given_far n = cond-false (eqb i m) _ _ (ne_eqb i m n)
+  given_far n = grind (arith, nat_tests)
 
 module _ (s : Parameters) (j : ℕ) (hj : j < s.k) where
   -- the node of the parity symbol that gives an offset past S
@@ -66,29 +65,19 @@ module _ (s : Parameters) (j : ℕ) (hj : j < s.k) where
   own_is = refl
 
   step_is : (x : ℕ) → 1 ≤ x → x ≤ steps s → parity_place x ≡ at j (step_node s x)
-  step_is x a b = cond-false (eqb x 0) _ _ (ne_eqb x 0 (λ e. omega arith)) ∙ cond-true (leb x (steps s)) _ _ (le-leb x (steps s) b)
+  step_is x a b = grind (arith, nat_tests)
 
   far_is : (x : ℕ) → steps s < x → parity_place x ≡ at (wrap s (j + x)) far_node
-  far_is x a = cond-false (eqb x 0) _ _ (ne_eqb x 0 (λ e. omega arith)) ∙ cond-false (leb x (steps s)) _ _ (lt-leb x (steps s) a)
+  far_is x a = grind (arith, nat_tests)
 
   far_node_row : s.b ≡ 0 → far_node ≡ s.k
-  far_node_row z = cond-true (eqb s.b 0) _ _ (eq-eqb s.b 0 z)
+  far_node_row z = grind (arith, nat_tests)
 
   far_node_local : (s.b ≡ 0 → ⊥) → far_node ≡ step_node s (steps s)
-  far_node_local n = cond-false (eqb s.b 0) _ _ (ne_eqb s.b 0 n)
+  far_node_local n = grind (arith, nat_tests)
 
   far_node_bounds : (s.k ≤ far_node) × (far_node < nodes s)
-  far_node_bounds =
-      ⊎_elim (λ z. let e = far_node_row z in (omega arith, omega arith)) (λ n. let e = far_node_local n in (omega arith, omega arith)) (cases_eq s.b 0)
-
-  row_not : (x : ℕ) → 1 ≤ x → x < s.k → wrap s (j + x) ≡ j → ⊥
-  row_not x a b e = let w = wrapped s (j + x) (omega arith) in ⊎_elim (λ f. omega arith) (λ f. omega arith) w.either
-
-  rows_apart : (x y : ℕ) → x < s.k → y < s.k → wrap s (j + x) ≡ wrap s (j + y) → x ≡ y
-  rows_apart x y a b e =
-      let u = wrapped s (j + x) (omega arith) in
-      let w = wrapped s (j + y) (omega arith) in
-      ⊎_elim (λ f. ⊎_elim (λ g. omega arith) (λ g. absurd (omega arith)) w.either) (λ f. ⊎_elim (λ g. absurd (omega arith)) (λ g. omega arith) w.either) u.either
+  far_node_bounds = (grind (arith, nat_tests), grind (arith, nat_tests))
 
   -- its slot is that of the symbol which it gives
   abbrev SlotOf : ℕ → Place → Type 0
@@ -102,21 +91,17 @@ module _ (s : Parameters) (j : ℕ) (hj : j < s.k) where
       subst (λ p. SlotOf x p) (ap parity_place (sym z))
       (slot_parity s j j s.k hj (omega arith) (omega arith) ∙ ap (λ r. s.k * r + j) (given_plain s j j s.k refl (omega arith) ∙ sym w)))
       (λ n.
-      let p = positive x n in
+      let p : 1 ≤ x = omega arith in
       ⊎_elim
       (λ f.
       let b = far_node_bounds in
       subst (λ p. SlotOf x p) (sym (far_is x f))
-      (slot_parity s j (wrap s (j + x)) far_node (wrapped s (j + x) (omega arith)).below b.0 b.1 ∙ ap (λ r. s.k * r + j) (given_far s j (wrap s (j + x)) far_node (row_not x p h))))
+      (slot_parity s j (wrap s (j + x)) far_node (wrapped s (j + x) (omega arith)).below b.0 b.1 ∙ ap (λ r. s.k * r + j) (given_far s j (wrap s (j + x)) far_node (row_not s j x hj p h))))
       (λ l.
       subst (λ p. SlotOf x p) (sym (step_is x p l))
       (slot_parity s j j (step_node s x) hj (omega arith) (omega arith) ∙ ap (λ r. s.k * r + j) (given_step s j j (step_node s x) x refl p refl)))
       (cases_lt (steps s) x))
       (cases_eq x 0)
-    where
-      positive : (n : ℕ) → (n ≡ 0 → ⊥) → 1 ≤ n
-      positive zero h = absurd (h refl)
-      positive (suc n) h = omega arith
 
   -- each place of the sheet is a data place, or gives a symbol
   abbrev Kind : Place → Type 0
@@ -130,7 +115,7 @@ module _ (s : Parameters) (j : ℕ) (hj : j < s.k) where
       let n : p.node ≡ skip j c = ap (λ q. q.node) q in
       ⊎_elim
       (λ l. inl (omega arith))
-      (λ l. inr (x, hx, q ∙ ap (at i) (⊎_elim (λ t. omega (arith, t.1)) (λ t. omega (arith, t.1)) (skip_cases j c)) ∙ sym e)) (cases_lt (skip j c) s.k)
+      (λ l. inr (x, hx, q ∙ ap (at i) (omega (arith, skip_bounds j c)) ∙ sym e)) (cases_lt (skip j c) s.k)
 
   step_kind : (t l : ℕ) → 1 ≤ t → t + l ≤ steps s + 1 → (p : Place) → In p (step_places s j t l) → Kind p
   unfolding step_places
@@ -144,12 +129,8 @@ module _ (s : Parameters) (j : ℕ) (hj : j < s.k) where
   far_kind x far below p h =
       ⊎_elim
       (λ z. row_kind x (wrap s (j + x)) below (far_is x far ∙ ap (at (wrap s (j + x))) (far_node_row z)) p (subst (λ ps. In p ps) (far_row s j x z) h))
-      (λ n. local_kind n p (subst (λ ps. In p ps) (far_local s j x (positive s.b n)) h)) (cases_eq s.b 0)
+      (λ n. local_kind n p (subst (λ ps. In p ps) (far_local s j x (omega arith)) h)) (cases_eq s.b 0)
     where
-      positive : (n : ℕ) → (n ≡ 0 → ⊥) → 1 ≤ n
-      positive zero h = absurd (h refl)
-      positive (suc n) h = omega arith
-
       local_kind : (s.b ≡ 0 → ⊥) → (p : Place) → In p (local_places s x (wrap s (j + x))) → Kind p
       local_kind n p (inl e) = inr (x, below, e ∙ sym (far_is x far ∙ ap (at (wrap s (j + x))) (far_node_local n)))
       local_kind n p (inr (inl e)) =
@@ -161,26 +142,12 @@ module _ (s : Parameters) (j : ℕ) (hj : j < s.k) where
           let (lo, hi) = from_counting m 1 (reach s - 2) u in
           let f : p.node ≡ wrap s (wrap s (j + x) + skip (s.k - x) m) = ap (λ q. q.node) e in
           let b = (wrapped s (j + x) (omega arith)).below in
-          let y : skip (s.k - x) m < s.k = ⊎_elim (λ c. omega (arith, c.1)) (λ c. omega (arith, c.1)) (skip_cases (s.k - x) m) in
+          let y : skip (s.k - x) m < s.k = omega (arith, skip_bounds (s.k - x) m) in
           let w = (wrapped s (wrap s (j + x) + skip (s.k - x) m) (omega arith)).below in
           inl (omega arith)
 
   kind : (p : Place) → In p (sheet s j) → Kind p
-  unfolding sheet
-  kind p h =
-      ⊎_elim (row_kind 0 j (omega arith) own_is p)
-      (λ r.
-      ⊎_elim (step_kind 1 s.tau (omega arith) (omega arith) p)
-      (λ q.
-      ⊎_elim (step_kind (s.tau + 1) s.b (omega arith) (omega arith) p)
-      (λ t.
-      let (x, g, f) = from_each (far_places s j) p (far_offsets s) t in
-      let (a, b) = from_counting x (steps s + 1) (reach s - 1) g in
-      far_kind x (omega arith) (omega arith) p f)
-      (in_append p (step_places s j (s.tau + 1) s.b) (each (far_places s j) (far_offsets s)) q))
-      (in_append p (step_places s j 1 s.tau) (step_places s j (s.tau + 1) s.b ++ each (far_places s j) (far_offsets s)) r))
-      (in_append p (row_places s j j) (step_places s j 1 s.tau ++ (step_places s j (s.tau + 1) s.b ++ each (far_places s j) (far_offsets s)))
-      (subst (λ ps. In p ps) (listing_parts s j) (from_distinct (listing s j) p h)))
+  kind = by_part s j Kind (row_kind 0 j (omega arith) own_is) (λ t l u v. step_kind t l u v) (λ x far below. far_kind x far below)
 
   -- the row and the data node that a slot is of
   record Held (p : Place) : Type 0 where
@@ -212,7 +179,7 @@ module _ (s : Parameters) (j : ℕ) (hj : j < s.k) where
       (λ v.
       let (x, hx, z, a, b) = u in
       let (y, hy, z', a', b') = v in
-      b ∙ ap parity_place (rows_apart x y hx hy (sym a ∙ r ∙ a')) ∙ sym b') g.fixes) f.fixes
+      b ∙ ap parity_place (rows_apart s j x y hj hx hy (sym a ∙ r ∙ a')) ∙ sym b') g.fixes) f.fixes
 
 pub slots : Slots
 slots s m hm = (

@@ -1,17 +1,16 @@
 -- Each place of a node's read sheet stands on the array, at another node. Assumes nothing.
-use Rattle.std.proofs.Common.{◌≡◌, ℕ, zero, suc, ◌+◌, ◌-◌, ◌*◌, ◌<◌, ◌≤◌, ◌++◌, length, sym, refl, ap, ◌∙◌, subst, inl, inr, ⊎_elim, add-mul, mul-le-mul, mul-add, arith}
+use Rattle.std.proofs.Common.{◌≡◌, ℕ, ◌+◌, ◌-◌, ◌*◌, ◌<◌, ◌≤◌, length, sym, refl, ap, ◌∙◌, subst, inl, inr, ⊎_elim, add-mul, mul-le-mul, mul-add, arith}
 use Rattle.std.specs.List.{range_with_len}
 use Rattle.std.proofs.lemmas.Bool.{cases_lt, cases_eq}
 use Rattle.array.specs.declared.parameters.Parameters.{Parameters}
 use Rattle.sheet.specs.declared.place.Place.{Place}
 use Rattle.array.specs.Layout.{nodes, steps, reach, wrap, offset, step_node, skip}
 use Rattle.sheet.specs.Places.{at, distinct, places_of, sheet_of}
-use Rattle.array.specs.Each.{each}
-use Rattle.array.specs.Sheet.{row_places, step_places, local_places, far_places, far_offsets, listing, sheet, least_offset, mend_entries, node_sheet}
+use Rattle.array.specs.Sheet.{row_places, step_places, local_places, far_places, listing, sheet, least_offset, mend_entries, node_sheet}
 use Rattle.array.specs.Theorems.{AllStand, sheet_size}
-use Rattle.array.proofs.Members.{In, in_append, from_map, from_counting, from_each, in_listed, listed_in, in_distinct, from_distinct}
-use Rattle.array.proofs.Wraps.{wrapped, offset_cases, skip_cases, skip_not}
-use Rattle.array.proofs.Parts.{listing_parts, in_row, far_row, far_local}
+use Rattle.array.proofs.Members.{In, from_map, from_counting, in_listed, listed_in, in_distinct}
+use Rattle.array.proofs.Wraps.{wrapped, offset_cases, skip_bounds, skip_not, row_not}
+use Rattle.array.proofs.Parts.{in_row, far_row, far_local, by_part}
 use Rattle.array.proofs.Once.{distinct_twice}
 use Rattle.array.proofs.Kept.{in_offset, from_offset, offset_length}
 use Rattle.array.proofs.Restoring.{sheet_data, sheet_parity, least_a, least_b}
@@ -30,7 +29,7 @@ module _ (s : Parameters) (n : ℕ) where
     row_fine i hi p h =
         let (c, g, e) = from_map (λ c. at i (skip n c)) p (range_with_len 0 s.k) h in
         let (a, b) = from_counting c 0 s.k g in
-        fine i (skip n c) hi (⊎_elim (λ t. omega (arith, t.1)) (λ t. omega (arith, t.1)) (skip_cases n c)) (skip_not n c) p e
+        fine i (skip n c) hi (omega (arith, skip_bounds n c)) (skip_not n c) p e
 
     step_fine : (t l : ℕ) → 1 ≤ t → t + l ≤ steps s + 1 → (p : Place) → In p (step_places s n t l) → Fine p
     unfolding step_places
@@ -40,9 +39,6 @@ module _ (s : Parameters) (n : ℕ) where
         fine n (step_node s x) hn (omega arith) (λ z. omega arith) p e
 
     module _ (x : ℕ) (far : steps s < x) (below : x < s.k) where
-      row_not : wrap s (n + x) ≡ n → ⊥
-      row_not e = let w = wrapped s (n + x) (omega arith) in ⊎_elim (λ f. omega arith) (λ f. omega arith) w.either
-
       past_not : (y : ℕ) → y < s.k → (y ≡ s.k - x → ⊥) → wrap s (wrap s (n + x) + y) ≡ n → ⊥
       past_not y h d e =
           let u = wrapped s (n + x) (omega arith) in
@@ -55,40 +51,22 @@ module _ (s : Parameters) (n : ℕ) where
       local_fine some p (inl e) = fine (wrap s (n + x)) (step_node s (steps s)) (wrapped s (n + x) (omega arith)).below (omega arith) (λ z. omega arith) p e
       local_fine some p (inr (inl e)) =
           let b = (wrapped s (n + x) (omega arith)).below in
-          fine (wrap s (wrap s (n + x) + steps s)) (wrap s (n + x)) (wrapped s (wrap s (n + x) + steps s) (omega arith)).below (omega arith) row_not p e
+          fine (wrap s (wrap s (n + x) + steps s)) (wrap s (n + x)) (wrapped s (wrap s (n + x) + steps s) (omega arith)).below (omega arith) (row_not s n x hn (omega arith) below) p e
       local_fine some p (inr (inr h)) =
           let b = (wrapped s (n + x) (omega arith)).below in
           let (m, g, e) = from_map (λ m. at (wrap s (n + x)) (wrap s (wrap s (n + x) + skip (s.k - x) m))) p (range_with_len 1 (reach s - 2)) h in
           let (lo, hi) = from_counting m 1 (reach s - 2) g in
-          let y : skip (s.k - x) m < s.k = ⊎_elim (λ c. omega (arith, c.1)) (λ c. omega (arith, c.1)) (skip_cases (s.k - x) m) in
+          let y : skip (s.k - x) m < s.k = omega (arith, skip_bounds (s.k - x) m) in
           let w = (wrapped s (wrap s (n + x) + skip (s.k - x) m) (omega arith)).below in
           fine (wrap s (n + x)) (wrap s (wrap s (n + x) + skip (s.k - x) m)) b (omega arith) (past_not (skip (s.k - x) m) y (skip_not (s.k - x) m)) p e
 
       far_fine : (p : Place) → In p (far_places s n x) → Fine p
       far_fine p h =
           ⊎_elim (λ z. row_fine (wrap s (n + x)) (wrapped s (n + x) (omega arith)).below p (subst (λ ps. In p ps) (far_row s n x z) h))
-          (λ d. let some : 1 ≤ s.b = positive s.b d in local_fine some p (subst (λ ps. In p ps) (far_local s n x some) h)) (cases_eq s.b 0)
-        where
-          positive : (n : ℕ) → (n ≡ 0 → ⊥) → 1 ≤ n
-          positive zero h = absurd (h refl)
-          positive (suc n) h = omega arith
+          (λ d. let some : 1 ≤ s.b = omega arith in local_fine some p (subst (λ ps. In p ps) (far_local s n x some) h)) (cases_eq s.b 0)
 
     sheet_fine : (p : Place) → In p (sheet s n) → Fine p
-    unfolding sheet
-    sheet_fine p h =
-        ⊎_elim (row_fine n hn p)
-        (λ r.
-        ⊎_elim (step_fine 1 s.tau (omega arith) (omega arith) p)
-        (λ q.
-        ⊎_elim (step_fine (s.tau + 1) s.b (omega arith) (omega arith) p)
-        (λ t.
-        let (x, g, f) = from_each (far_places s n) p (far_offsets s) t in
-        let (a, b) = from_counting x (steps s + 1) (reach s - 1) g in
-        far_fine x (omega arith) (omega arith) p f)
-        (in_append p (step_places s n (s.tau + 1) s.b) (each (far_places s n) (far_offsets s)) q))
-        (in_append p (step_places s n 1 s.tau) (step_places s n (s.tau + 1) s.b ++ each (far_places s n) (far_offsets s)) r))
-        (in_append p (row_places s n n) (step_places s n 1 s.tau ++ (step_places s n (s.tau + 1) s.b ++ each (far_places s n) (far_offsets s)))
-        (subst (λ ps. In p ps) (listing_parts s n) (from_distinct (listing s n) p h)))
+    sheet_fine = by_part s n Fine (row_fine n hn) (λ t l u v. step_fine t l u v) (λ x far below. far_fine x far below)
 
   module _ (hn : s.k ≤ n) where
     parity_fine : (p : Place) → In p (node_sheet s n) → Fine p
@@ -151,16 +129,12 @@ stands s m hm = record {
     sheet_once : distinct (node_sheet s m) ≡ node_sheet s m
     sheet_once = distinct_twice (places_of (mend_entries s m))
 
-    positive : (n : ℕ) → (n ≡ 0 → ⊥) → 1 ≤ n
-    positive zero h = absurd (h refl)
-    positive (suc n) h = omega arith
-
     sheet_few : length (node_sheet s m) ≤ s.k * s.k
     sheet_few =
         ⊎_elim
         (λ t.
         ⊎_elim (λ z. let a = sized_rows s z m t in let b = few_rows s z in omega (arith, a, b))
-        (λ d. let y = positive s.b d in let a = sized s y m t in let b = few_local s y in omega (arith, a, b)) (cases_eq s.b 0))
+        (λ d. let y : 1 ≤ s.b = omega arith in let a = sized s y m t in let b = few_local s y in omega (arith, a, b)) (cases_eq s.b 0))
         (λ t.
         let a : length (node_sheet s m) ≡ s.k * (s.k - least_offset s m) = ap length (sheet_parity s m t) ∙ offset_length s (least_offset s m) in
         let b : s.k * (s.k - least_offset s m) ≤ s.k * s.k = mul-le-mul (omega arith) (omega arith) in

@@ -1,7 +1,8 @@
 -- Numbers modulo k, and the numbers but one. Assumes nothing.
-use Rattle.std.proofs.Common.{◌≡◌, ℕ, ◌+◌, ◌-◌, ◌<◌, ◌≤◌, ltb, ◌⊎◌, sym, ◌∙◌, inl, inr, ⊎_elim, mod-eq_of_lt, arith}
+use Rattle.std.proofs.Common.{◌≡◌, ℕ, ◌+◌, ◌-◌, ◌<◌, ◌≤◌, ◌⊎◌, sym, ◌∙◌, inl, inr, ⊎_elim, mod-eq_of_lt, arith}
 use native.Mathlib.Nat.{mod-eq-sub-mod}
-use Rattle.std.proofs.lemmas.Bool.{cases_lt, cases_eq, cond-true, cond-false, lt-ltb, le-ltb}
+use Rattle.std.proofs.lemmas.Bool.Decides.{nat_tests}
+use Rattle.std.proofs.lemmas.Bool.{cases_lt}
 use Rattle.array.specs.declared.parameters.Parameters.{Parameters}
 use Rattle.array.specs.Layout.{wrap, offset, skip}
 
@@ -43,28 +44,32 @@ offset_node s i j hi hj =
 
 -- the numbers but x
 pub skip_cases : (x c : ℕ) → ((c < x) × (skip x c ≡ c)) ⊎ ((x ≤ c) × (skip x c ≡ c + 1))
-skip_cases x c =
-    ⊎_elim (λ h. inl (h, cond-true (ltb c x) c (c + 1) (lt-ltb c x h))) (λ h. inr (h, cond-false (ltb c x) c (c + 1) (le-ltb c x h))) (cases_lt c x)
+skip_cases x c = ⊎_elim (λ h. inl (h, grind (arith, nat_tests))) (λ h. inr (h, grind (arith, nat_tests))) (cases_lt c x)
+
+pub skip_bounds : (x c : ℕ) → (c ≤ skip x c) × (skip x c ≤ c + 1)
+skip_bounds x c = (grind (arith, nat_tests), grind (arith, nat_tests))
 
 pub skip_not : (x c : ℕ) → skip x c ≡ x → ⊥
-skip_not x c e = ⊎_elim (λ p. omega (arith, p.0, p.1)) (λ p. omega (arith, p.0, p.1)) (skip_cases x c)
+skip_not x c e = grind (arith, nat_tests)
 
 pub skip_injective : (x c e : ℕ) → skip x c ≡ skip x e → c ≡ e
-skip_injective x c e h =
-    ⊎_elim
-    (λ p. ⊎_elim (λ q. omega (arith, p.0, p.1, q.0, q.1)) (λ q. omega (arith, p.0, p.1, q.0, q.1)) (skip_cases x e))
-    (λ p. ⊎_elim (λ q. omega (arith, p.0, p.1, q.0, q.1)) (λ q. omega (arith, p.0, p.1, q.0, q.1)) (skip_cases x e)) (skip_cases x c)
+skip_injective x c e h = grind (arith, nat_tests)
 
 -- each number but x is listed
 pub skip_onto : (x y : ℕ) → (y ≡ x → ⊥) → (c : ℕ) × (skip x c ≡ y) × (c ≤ y) × (y ≤ c + 1) × (x < y → y ≡ c + 1)
 skip_onto x y n =
-    ⊎_elim
-    (λ h. (y, cond-true (ltb y x) y (y + 1) (lt-ltb y x h), omega arith, omega arith, λ g. omega arith))
-    (λ h. let p : x < y = lt_of h in (y - 1, cond-false (ltb (y - 1) x) (y - 1) (y - 1 + 1) (le-ltb (y - 1) x (omega arith)) ∙ omega arith, omega arith, omega arith, λ g. omega arith))
-    (cases_lt y x)
-  where
-    lt_of : x ≤ y → x < y
-    lt_of h = ⊎_elim (λ e. absurd (n (sym e))) (λ d. omega arith) (cases_eq x y)
+    ⊎_elim (λ h. (y, grind (arith, nat_tests), omega arith, omega arith, λ g. omega arith))
+    (λ h. (y - 1, grind (arith, nat_tests), omega arith, omega arith, λ g. omega arith)) (cases_lt y x)
+
+-- the rows x and y further on
+pub row_not : (s : Parameters) (j x : ℕ) → j < s.k → 1 ≤ x → x < s.k → wrap s (j + x) ≡ j → ⊥
+row_not s j x h a b e = let w = wrapped s (j + x) (omega arith) in ⊎_elim (λ f. omega arith) (λ f. omega arith) w.either
+
+pub rows_apart : (s : Parameters) (j x y : ℕ) → j < s.k → x < s.k → y < s.k → wrap s (j + x) ≡ wrap s (j + y) → x ≡ y
+rows_apart s j x y h a b e =
+    let u = wrapped s (j + x) (omega arith) in
+    let w = wrapped s (j + y) (omega arith) in
+    ⊎_elim (λ f. ⊎_elim (λ g. omega arith) (λ g. absurd (omega arith)) w.either) (λ f. ⊎_elim (λ g. absurd (omega arith)) (λ g. omega arith) w.either) u.either
 
 -- the offset, from the row and the node
 pub offset_cases : (s : Parameters) (i c : ℕ) → i < s.k → c < s.k → ((c ≤ i) × (offset s i c ≡ i - c)) ⊎ ((i < c) × (offset s i c ≡ i + s.k - c))

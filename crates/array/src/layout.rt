@@ -1,8 +1,10 @@
 // Where things stand in an array.
-ghost use Rattle.std.specs.Prelude.{◌≡◌, ◌+◌, ◌<◌, ◌≤◌};
+ghost use Rattle.std.specs.Prelude.{◌≡◌, ◌+◌, ◌<◌, ◌≤◌, slice_index_or};
 ghost use Rattle.array.specs.Layout.{nodes, steps, reach, wrap, offset, step_node, first_step, step_of, skip};
+ghost use Rattle.array.specs.Sheet.{local_places};
 
 use crate::parameters::Parameters;
+use sheet::Place;
 
 impl Parameters {
     // n, the number of nodes.
@@ -34,6 +36,7 @@ impl Parameters {
     }
 
     // The offset of the symbol in a row of a data node.
+    // Kept: rows and nodes are plain numbers to every caller, as in a place, and each call shows that they are on the array.
     pub fn offset(self, row: usize, node: usize) -> usize
         requires { (row < self.k) × (node < self.k) }
         ensures { result ≡ offset self row node }
@@ -62,6 +65,29 @@ impl Parameters {
         ensures { result ≡ step_of self node }
     {
         node - self.first_step() + 1
+    }
+
+    // The place listed at `l` for the symbol of offset x, past the last step, in a row, which the last Class B node gives.
+    pub fn local_place(self, x: usize, row: usize, l: usize) -> Place
+        requires far { (steps self < x) × (x < self.k) }
+        requires some { 1 ≤ self.b }
+        requires listed { (row < self.k) × (l < reach self) }
+        ensures { result ≡ slice_index_or (local_places self x row) l result }
+    {
+        match l {
+            0 => Place {
+                row,
+                node: self.step_node(self.steps()),
+            },
+            1 => Place {
+                row: self.wrap(row + self.steps()),
+                node: row,
+            },
+            _ => Place {
+                row,
+                node: self.wrap(row + skip(self.k - x, l - 1)),
+            },
+        }
     }
 }
 

@@ -14,7 +14,7 @@ mod sums;
 
 pub use fault::ParameterFault;
 pub use layout::skip;
-pub use parameters::Parameters;
+pub use parameters::{Parameters, Proposed};
 pub use sums::{around, by_local, past, weight};
 
 // A row's symbols are the values of one polynomial.

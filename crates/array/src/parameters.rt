@@ -5,6 +5,15 @@ ghost use Rattle.array.specs.Checks.{declined, declined_over};
 use crate::fault::ParameterFault;
 use field::NumberedField;
 
+// Parameters as they are asked for, not checked.
+#[derive(Clone, Copy, Debug, PartialEq, Eq)]
+pub struct Proposed {
+    pub k: usize,
+    pub a: usize,
+    pub tau: usize,
+    pub b: usize,
+}
+
 // The parameters of a code: k data nodes, a nodes of Class A of which the last tau carry piggybacks, b nodes of Class B.
 #[derive(Clone, Copy)]
 pub struct Parameters {
@@ -20,9 +29,11 @@ pub struct Parameters {
 
 impl Parameters {
     // The parameters, if there may be such.
-    pub fn check(k: usize, a: usize, tau: usize, b: usize) -> Result<Parameters, ParameterFault>
-        ensures { MatchResult result (λ p. (declined k a tau b ≡ None) × (p.k ≡ k) × (p.a ≡ a) × (p.tau ≡ tau) × (p.b ≡ b)) (λ f. declined k a tau b ≡ Some f) }
+    #[tactic(auto, unfolding(crate::specs::Checks::declined))]
+    pub fn check(proposed: Proposed) -> Result<Parameters, ParameterFault>
+        ensures { MatchResult result (λ p. (declined proposed.k proposed.a proposed.tau proposed.b ≡ None) × (p.k ≡ proposed.k) × (p.a ≡ proposed.a) × (p.tau ≡ proposed.tau) × (p.b ≡ proposed.b)) (λ f. declined proposed.k proposed.a proposed.tau proposed.b ≡ Some f) }
     {
+        let Proposed { k, a, tau, b } = proposed;
         if k < 3 || 32 < k {
             return Err(ParameterFault::DataNodes);
         }
@@ -46,23 +57,14 @@ impl Parameters {
     }
 
     // The parameters, if there may be such over the field F.
-    pub fn check_over<F: NumberedField>(
-        k: usize,
-        a: usize,
-        tau: usize,
-        b: usize,
-    ) -> Result<Parameters, ParameterFault>
-        ensures { MatchResult result (λ p. (declined_over F.size k a tau b ≡ None) × (p.k ≡ k) × (p.a ≡ a) × (p.tau ≡ tau) × (p.b ≡ b)) (λ f. declined_over F.size k a tau b ≡ Some f) }
+    #[tactic(auto, unfolding(crate::specs::Checks::declined_over))]
+    pub fn check_over<F: NumberedField>(proposed: Proposed) -> Result<Parameters, ParameterFault>
+        ensures { MatchResult result (λ p. (declined_over F.size proposed.k proposed.a proposed.tau proposed.b ≡ None) × (p.k ≡ proposed.k) × (p.a ≡ proposed.a) × (p.tau ≡ proposed.tau) × (p.b ≡ proposed.b)) (λ f. declined_over F.size proposed.k proposed.a proposed.tau proposed.b ≡ Some f) }
     {
-        match Parameters::check(k, a, tau, b) {
-            Err(fault) => Err(fault),
-            Ok(parameters) => {
-                if parameters.fits_field::<F>() {
-                    Ok(parameters)
-                } else {
-                    Err(ParameterFault::SmallField)
-                }
-            }
+        let parameters = Parameters::check(proposed)?;
+        if !parameters.fits_field::<F>() {
+            return Err(ParameterFault::SmallField);
         }
+        Ok(parameters)
     }
 }

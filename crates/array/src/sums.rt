@@ -1,6 +1,6 @@
 // The sums that symbols are made of and solved by.
 ghost use Rattle.std.specs.Prelude.{◌≡◌, ◌<◌, ◌≤◌};
-ghost use Rattle.row.specs.Interpolation.{others, basis};
+ghost use Rattle.row.specs.Interpolation.{basis};
 ghost use Rattle.row.specs.Numbered.{numbered as numbered_of};
 ghost use Rattle.array.specs.Layout.{skip as skip_of};
 ghost use Rattle.array.specs.Symbols.{past};
@@ -9,22 +9,29 @@ ghost use Rattle.array.specs.Recovered.{around, by_local};
 use crate::layout::skip;
 use crate::parameters::Parameters;
 use field::{Field, NumberedField};
-use row::numbered;
+use row::{Points, basis, numbered};
 use sheet::Table;
 
-// The product of the differences of `at` and the symbols of the nodes 0, .., k but `gap`, without the one listed at `skipped`.
-fn product_of_others<F: NumberedField>(k: usize, gap: usize, skipped: usize, at: F) -> F
-    requires { k ≤ 32 }
-    ensures { result ≡ others F.Field.ops (λ l. numbered_of F.Field.ops.zero F.symbol (skip_of gap l)) k skipped at }
-{
-    let mut result = F::one();
-    for m in 0..k {
-        if m != skipped {
-            let point = numbered::<F>(skip(gap, m));
-            result = result.product(at.difference(point));
-        }
+// The symbols of the nodes 0, .., k but `gap`.
+#[derive(Clone, Copy)]
+struct NodesBut {
+    k: usize,
+    gap: usize,
+    ghost few: { k ≤ 32 },
+}
+
+impl<F: NumberedField> Points<F> for NodesBut {
+    ghost count = { λ s. s.k };
+
+    ghost point = { λ s l. numbered_of F.Field.ops.zero F.symbol (skip_of s.gap l) };
+
+    fn len(&self) -> usize {
+        self.k
     }
-    result
+
+    fn point(&self, l: usize) -> F {
+        numbered(skip(self.gap, l))
+    }
 }
 
 // What the symbol at the node listed at `l` counts at `at`.
@@ -32,13 +39,12 @@ pub fn weight<F: NumberedField>(k: usize, gap: usize, l: usize, at: F) -> F
     requires { (k ≤ 32) × (l < k) }
     ensures { result ≡ basis F.Field.ops (λ l. numbered_of F.Field.ops.zero F.symbol (skip_of gap l)) k l at }
 {
-    let above = product_of_others(k, gap, l, at);
-    let point = numbered::<F>(skip(gap, l));
-    let below = product_of_others(k, gap, l, point);
-    above.product(below.inverse())
+    basis(&NodesBut { k, gap }, l, at)
 }
 
 // The row rule at a node of a row, from the row at the nodes 0, .., k but `gap`.
+// Kept: the symbols stand in a row of a table, which is no slice.
+#[tactic(auto, using(row::proofs::Lagrange::sum_more), unfolding(crate::specs::Recovered::around))]
 pub fn around<F: NumberedField, T: Table<F>>(
     shape: Parameters,
     table: &T,
@@ -58,6 +64,7 @@ pub fn around<F: NumberedField, T: Table<F>>(
 }
 
 // The sum of the symbols past the diagonal that the node of step t adds in a row.
+#[tactic(auto, using(crate::proofs::Turns::sum_to_more), unfolding(crate::specs::Symbols::past, crate::specs::Symbols::sum_to))]
 pub fn past<F: Field, T: Table<F>>(shape: Parameters, table: &T, row: usize, t: usize) -> F
     requires { (row < shape.k) × (t < shape.k) }
     ensures { result ≡ past F.ops shape (T.Table.held table.now) row t }
@@ -70,6 +77,7 @@ pub fn past<F: Field, T: Table<F>>(shape: Parameters, table: &T, row: usize, t: 
 }
 
 // The symbol x places past the diagonal in a row, by the last local node.
+#[tactic(auto, using(crate::proofs::Turns::sum_but_more, crate::proofs::Turns::sum_but_skip), unfolding(crate::specs::Recovered::by_local, crate::specs::Symbols::sum_but, crate::specs::Symbols::sum_to))]
 pub fn by_local<F: Field, T: Table<F>>(shape: Parameters, table: &T, x: usize, row: usize) -> F
     requires { row < shape.k }
     ensures { result ≡ by_local F.ops shape (T.Table.held table.now) x row }

@@ -10,15 +10,15 @@ ghost use Rattle.bank.specs.Banks.{lender, means, used, whole};
 ghost use Rattle.bank.specs.Soundness.{bank_sound};
 
 use field::NumberedField;
-use store::{Cause, Shape, Store, StoreFault, Unfit, judged};
+use store::{Shape, Store, StoreFault, Unfit};
 
 mod bank;
 mod cell;
-pub mod lent;
+mod cells;
 
 pub use bank::Bank;
 pub use cell::Cell;
-use lent::Lent;
+pub use cells::Cells;
 
 // The reads that a place stands.
 pub const LIFE: u16 = 1000;
@@ -38,9 +38,8 @@ impl<'m, F: NumberedField> Bank<'m, F> {
         ensures beyond { Beyond (shape.rows * shape.nodes) memory.old (whole result) }
         ensures lender { lender result ≡ memory.entry.ghost_name }
     {
-        let mut lent = Lent { cells: memory };
-        lent.clear(0, shape.rows * shape.nodes);
-        Bank { lent, shape }
+        medium::make::<F, Cells>(memory, shape);
+        Bank::open(memory, shape)
     }
 
     // The store that lies in the memory already, whatever its cells hold.
@@ -51,7 +50,7 @@ impl<'m, F: NumberedField> Bank<'m, F> {
         ensures lender { lender result ≡ memory.entry.ghost_name }
     {
         Bank {
-            lent: Lent { cells: memory },
+            cells: memory,
             shape,
         }
     }
@@ -59,8 +58,6 @@ impl<'m, F: NumberedField> Bank<'m, F> {
 
 impl<'m, F: NumberedField> Store<F> for Bank<'m, F> {
     ghost meaning = { means };
-
-    ghost sound = { bank_sound };
 
     fn rows(&self) -> usize {
         self.shape.rows
@@ -75,27 +72,11 @@ impl<'m, F: NumberedField> Store<F> for Bank<'m, F> {
     }
 
     fn probe(&self, row: usize, node: usize) -> Result<F, StoreFault> {
-        if row >= self.shape.rows || node >= self.shape.nodes {
-            return Err(StoreFault {
-                row,
-                node,
-                cause: Cause::OffStore,
-            });
-        }
-        let cell = self.lent.get(self.shape.rows * node + row);
-        judged(cell.symbol, cell.meter.min(LIFE), LIFE, row, node)
+        medium::probe::<F, Cells>(self.cells, self.shape, row, node)
     }
 
     fn meter(&self, row: usize, node: usize) -> Result<u16, StoreFault> {
-        if row >= self.shape.rows || node >= self.shape.nodes {
-            return Err(StoreFault {
-                row,
-                node,
-                cause: Cause::OffStore,
-            });
-        }
-        let cell = self.lent.get(self.shape.rows * node + row);
-        Ok(cell.meter.min(LIFE))
+        medium::meter::<F, Cells>(self.cells, self.shape, row, node)
     }
 
     fn read(&mut self, row: usize, node: usize) -> Result<F, StoreFault>
@@ -105,17 +86,8 @@ impl<'m, F: NumberedField> Store<F> for Bank<'m, F> {
         ensures beyond { Beyond (used self.old) (whole self.old) (whole self.new) }
         ensures lender { lender self.new ≡ lender self.old }
     {
-        let x = self.probe(row, node)?;
-        let i = self.shape.rows * node + row;
-        let cell = self.lent.get(i);
-        self.lent.put(
-            i,
-            Cell {
-                symbol: cell.symbol,
-                meter: cell.meter + 1,
-            },
-        );
-        Ok(x)
+        let cells = &mut *self.cells;
+        medium::read::<F, Cells>(cells, self.shape, row, node)
     }
 
     fn write(&mut self, row: usize, node: usize, x: F) -> Result<(), StoreFault>
@@ -125,23 +97,8 @@ impl<'m, F: NumberedField> Store<F> for Bank<'m, F> {
         ensures beyond { Beyond (used self.old) (whole self.old) (whole self.new) }
         ensures lender { lender self.new ≡ lender self.old }
     {
-        if row >= self.shape.rows || node >= self.shape.nodes {
-            return Err(StoreFault {
-                row,
-                node,
-                cause: Cause::OffStore,
-            });
-        }
-        let i = self.shape.rows * node + row;
-        let cell = self.lent.get(i);
-        self.lent.put(
-            i,
-            Cell {
-                symbol: Some(x),
-                meter: cell.meter,
-            },
-        );
-        Ok(())
+        let cells = &mut *self.cells;
+        medium::write::<F, Cells>(cells, self.shape, row, node, x)
     }
 
     fn clear(&mut self, node: usize) -> Result<u32, StoreFault>
@@ -151,18 +108,8 @@ impl<'m, F: NumberedField> Store<F> for Bank<'m, F> {
         ensures beyond { Beyond (used self.old) (whole self.old) (whole self.new) }
         ensures lender { lender self.new ≡ lender self.old }
     {
-        if node >= self.shape.nodes {
-            return Err(StoreFault {
-                row: 0,
-                node,
-                cause: Cause::OffStore,
-            });
-        }
-        let start = self.shape.rows * node;
-        let end = start + self.shape.rows;
-        let sum = self.lent.worn(start, end);
-        self.lent.clear(start, end);
-        Ok(sum)
+        let cells = &mut *self.cells;
+        medium::clear::<F, Cells>(cells, self.shape, node)
     }
 
     fn refresh(&mut self, node: usize) -> Result<u32, StoreFault>
@@ -172,17 +119,9 @@ impl<'m, F: NumberedField> Store<F> for Bank<'m, F> {
         ensures beyond { Beyond (used self.old) (whole self.old) (whole self.new) }
         ensures lender { lender self.new ≡ lender self.old }
     {
-        if node >= self.shape.nodes {
-            return Err(StoreFault {
-                row: 0,
-                node,
-                cause: Cause::OffStore,
-            });
-        }
-        let start = self.shape.rows * node;
-        let end = start + self.shape.rows;
-        let sum = self.lent.worn(start, end);
-        self.lent.refresh(start, end);
-        Ok(sum)
+        let cells = &mut *self.cells;
+        medium::refresh::<F, Cells>(cells, self.shape, node)
     }
+
+    ghost sound = { bank_sound };
 }

@@ -1,4 +1,5 @@
 -- The exponents as a list: at each byte but 0, the n with x^n equal to it.
+-- Kept: the laws rest on this list and not on the table of the program, which is shown to hold the same numbers.
 use Rattle.std.specs.Prelude.{ℕ, List, [], ◌∷◌}
 
 unfoldable pub exponents : List ℕ

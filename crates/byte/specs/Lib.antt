@@ -3,6 +3,5 @@ pub mod Bytes
 pub mod Laws
 pub mod Remainder
 pub mod Times
-pub mod Tested
 pub mod Exponents
 pub mod Products

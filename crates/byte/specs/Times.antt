@@ -1,12 +1,11 @@
 -- The product of bytes, reduced at each step, keeps the laws of a field. Assumes nothing.
-use Rattle.std.specs.Prelude.{◌≡◌, ℕ, zero, suc, ◌+◌, ◌-◌, ◌*◌, ◌/◌, ◌%◌, ◌<◌, ◌≤◌, Bool, true, false, cond, T, ◌==◌, ◌≢◌, bit_xor, nat_lt, slice_index}
+use Rattle.std.specs.Prelude.{◌≡◌, ℕ, zero, suc, ◌+◌, ◌-◌, ◌*◌, ◌/◌, ◌%◌, ◌<◌, ◌≤◌, Bool, true, false, cond, ◌&&◌, ◌==◌, ◌≢◌, bit_xor, nat_lt, slice_index}
 use Rattle.std.proofs.Math.Path.{refl}
-use Rattle.std.proofs.Common.{sym, ap, ap₂, ◌∙◌, add-zero, suc-add, zero-add, add_comm, add_assoc, zero-mul, suc-mul, arith, eqb→eq, ltb→lt, lit<}
+use Rattle.std.proofs.Common.{sym, ap, ap₂, ◌∙◌, add-zero, suc-add, zero-add, add_comm, add_assoc, zero-mul, suc-mul, arith, lit<}
 use Rattle.std.proofs.lemmas.Nat.{xor_comm, xor_block, xor_shr, xor_lt}
 use Rattle.std.specs.Int.Bits.{xor_assoc, xor_zero_r}
-use Rattle.std.proofs.lemmas.Bool.{cond-true, cond-false, eq-eqb, ne_eqb}
+use Rattle.std.proofs.lemmas.Bool.{cond-true, cond-false, eq-eqb, ne_eqb, ltb-true, eqb-true, and_parts, agree_below, agree_below_at}
 use Rattle.byte.specs.Polynomial.{times_x, power}
-use Rattle.byte.specs.Tested.{both, each, both_left, both_right, at}
 use Rattle.byte.specs.Exponents.{exponents}
 
 -- a b for b of n bits, reduced at each step: the sum of a x^i over the bits i of b
@@ -25,31 +24,31 @@ small_test a = nat_lt (times_x a) 256
 one_test : ℕ → Bool
 one_test b = times 8 1 b == b
 
-small_table : T (each small_test 256)
+small_table : agree_below small_test (λ _. true) 256 ≡ true
 unfolding small_test times_x
-small_table = tt
+small_table = refl
 
-one_table : T (each one_test 256)
+one_table : agree_below one_test (λ _. true) 256 ≡ true
 unfolding one_test times times_x
-one_table = tt
+one_table = refl
 
 unfoldable pub exponent : ℕ → ℕ
 exponent a = slice_index exponents a
 
 exponent_test : ℕ → Bool
-exponent_test a = both (power (exponent (suc a)) == suc a) (nat_lt (exponent (suc a)) 255)
+exponent_test a = (power (exponent (suc a)) == suc a) && nat_lt (exponent (suc a)) 255
 
-exponent_table : T (each exponent_test 255)
+exponent_table : agree_below exponent_test (λ _. true) 255 ≡ true
 unfolding exponent_test exponent exponents power times_x
-exponent_table = tt
+exponent_table = refl
 
 pub times_x_lt : (a : ℕ) → a < 256 → times_x a < 256
 unfolding small_test
-times_x_lt a h = ltb→lt (times_x a) 256 (at small_test 256 small_table a h)
+times_x_lt a h = ltb-true (times_x a) 256 (agree_below_at small_test (λ _. true) 256 a small_table h)
 
 one_times : (b : ℕ) → b < 256 → times 8 1 b ≡ b
 unfolding one_test
-one_times b h = eqb→eq (times 8 1 b) b (at one_test 256 one_table b h)
+one_times b h = eqb-true (times 8 1 b) b (agree_below_at one_test (λ _. true) 256 b one_table h)
 
 -- times-x is linear
 
@@ -143,11 +142,11 @@ power_times (suc i) j = times_times_x 8 (power i) (power j) (power_lt i) ∙ ap 
 
 pub power_exponent : (a : ℕ) → a < 255 → power (exponent (suc a)) ≡ suc a
 unfolding exponent_test
-power_exponent a h = eqb→eq (power (exponent (suc a))) (suc a) (both_left (power (exponent (suc a)) == suc a) _ (at exponent_test 255 exponent_table a h))
+power_exponent a h = eqb-true (power (exponent (suc a))) (suc a) (and_parts _ _ (agree_below_at exponent_test (λ _. true) 255 a exponent_table h)).0
 
 pub exponent_lt : (a : ℕ) → a < 255 → exponent (suc a) < 255
 unfolding exponent_test
-exponent_lt a h = ltb→lt (exponent (suc a)) 255 (both_right (power (exponent (suc a)) == suc a) _ (at exponent_test 255 exponent_table a h))
+exponent_lt a h = ltb-true (exponent (suc a)) 255 (and_parts _ _ (agree_below_at exponent_test (λ _. true) 255 a exponent_table h)).1
 
 -- the laws
 

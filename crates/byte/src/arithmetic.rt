@@ -29,13 +29,14 @@ pub fn inverse(a: u8) -> u8
 }
 
 // x times a byte: where that has x^8, the modulus takes it away.
+#[tactic(auto, using(crate::specs::Times::times_x_low, crate::specs::Times::times_x_high, crate::specs::Times::times_x_lt))]
 fn shifted(a: u8) -> u8
     ensures { result ≡ times_x a }
 {
     if a < 128 {
         a * 2
     } else {
-        ((a as u16 * 2) ^ 0x11D) as u8
+        ((u16::from(a) * 2) ^ 0x11D) as u8
     }
 }
 
@@ -46,7 +47,7 @@ pub fn product_by_bits(a: u8, b: u8) -> u8
     let mut result = 0;
     let mut factor = a;
     let mut rest = b;
-    for i in 0..8usize {
+    for _ in 0..u8::BITS {
         if rest % 2 != 0 {
             result ^= factor;
         }

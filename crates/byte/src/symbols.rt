@@ -16,17 +16,15 @@ impl Field for Byte {
     ghost laws = { byte_laws };
 
     fn zero() -> Byte {
-        Byte { value: 0 }
+        Byte::new(0)
     }
 
     fn one() -> Byte {
-        Byte { value: 1 }
+        Byte::new(1)
     }
 
     fn sum(self, other: Byte) -> Byte {
-        Byte {
-            value: self.value ^ other.value,
-        }
+        Byte::new(self.value ^ other.value)
     }
 
     // Each symbol is its own negative, so the difference is the sum.
@@ -35,15 +33,11 @@ impl Field for Byte {
     }
 
     fn product(self, other: Byte) -> Byte {
-        Byte {
-            value: arithmetic::product(self.value, other.value),
-        }
+        Byte::new(arithmetic::product(self.value, other.value))
     }
 
     fn inverse(self) -> Byte {
-        Byte {
-            value: arithmetic::inverse(self.value),
-        }
+        Byte::new(arithmetic::inverse(self.value))
     }
 }
 
@@ -61,14 +55,10 @@ impl NumberedField for Byte {
     }
 
     fn symbol(n: usize) -> Option<Byte> {
-        if n < SIZE {
-            Some(Byte { value: n as u8 })
-        } else {
-            None
-        }
+        u8::try_from(n).ok().map(Byte::new)
     }
 
     fn number(self) -> usize {
-        self.value as usize
+        usize::from(self.value)
     }
 }

@@ -55,6 +55,7 @@ const EXPONENTS: [u8; 256] = [
 ];
 
 // x^n.
+#[tactic(auto, using(crate::proofs::Powers::powers_at))]
 pub(super) fn power_at(n: usize) -> u8
     requires { n < 512 }
     ensures { result ≡ power n }
@@ -68,5 +69,5 @@ pub(super) fn exponent_of(a: u8) -> usize
     ensures exponent { power result ≡ a }
     ensures low { result < 255 }
 {
-    EXPONENTS[a as usize] as usize
+    usize::from(EXPONENTS[usize::from(a)])
 }

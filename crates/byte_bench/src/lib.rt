@@ -14,8 +14,8 @@ pub fn byte_value_at(coefficients: &[Byte], x: Byte) -> Byte
     ensures { result ≡ value_of (length coefficients.now) coefficients.now x }
 {
     let mut total = Byte::new(0);
-    for i in 0..coefficients.len() {
-        total = total.product(x).sum(coefficients[i]);
+    for coefficient in coefficients {
+        total = total.product(x).sum(*coefficient);
     }
     total
 }

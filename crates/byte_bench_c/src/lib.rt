@@ -1,4 +1,5 @@
 // The functions of `byte_bench`, exported for a benchmark to call from outside.
+// Kept: a C program calls these by name, and an exported name stands in no generic or re-exported function.
 #![tactic(auto)]
 
 ghost use Rattle.std.specs.Prelude.{◌≡◌, length};

@@ -17,10 +17,7 @@ mod tests {
     // The symbol at number m of the row that begins 3 1 4 1.
     fn goes_on(m: usize) -> u8 {
         let row = [Byte::new(3), Byte::new(1), Byte::new(4), Byte::new(1)];
-        match row::row_symbol(&row, m) {
-            Ok(symbol) => symbol.value(),
-            Err(_) => 0,
-        }
+        row::row_symbol(&row, m).map_or(0, |symbol| symbol.value())
     }
 
     #[test]

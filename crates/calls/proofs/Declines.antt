@@ -11,7 +11,7 @@ use Rattle.calls.specs.declared.call.Reason.TheVariants.{SmallField, SmallStore,
 -- a test that was passed
 pub passed : {A : Type 0} (b : Bool) (o : Option A) (x : A) → cond b o (Some x) ≡ None → (b ≡ true) × (o ≡ None)
 passed true o x e = (refl, e)
-passed false o x e = let z : ◌≡◌ {A = ℕ} 0 1 = cc in absurd (omega arith)
+passed false o x e = cc
 
 -- field and store are large enough
 pub suited_passed : {F : Type 0} (size : ℕ) (code : CodeMeaning F) (m : Meaning F) (rest : Option Reason) → suited size code m rest ≡ None
@@ -29,32 +29,30 @@ suited_rest size code m rest l f =
     cond-true (leb code.field_size size) (cond (fits code m) rest (Some SmallStore)) (Some SmallField) (le-leb code.field_size size l)
     ∙ cond-true (fits code m) rest (Some SmallStore) f
 
-pub node_passed : {F : Type 0} (size : ℕ) (code : CodeMeaning F) (m : Meaning F) (node : ℕ) → node_decline size code m node ≡ None → node < code.nodes
-unfolding node_decline
-node_passed size code m node e =
-    ltb-true node code.nodes (passed (ltb node code.nodes) None OutOfRange (suited_passed size code m (cond (ltb node code.nodes) None (Some OutOfRange)) e).2).0
+-- what each call's checks say once they have passed
+module _ {F : Type 0} (size : ℕ) (code : CodeMeaning F) (m : Meaning F) where
+  pub node_passed : (node : ℕ) → node_decline size code m node ≡ None → (code.field_size ≤ size) × (fits code m ≡ true) × (node < code.nodes)
+  unfolding node_decline
+  node_passed node e = let p = suited_passed size code m _ e in (p.0, p.1, ltb-true _ _ (passed _ _ _ p.2).0)
 
-place_parts : (row column rows columns : ℕ) → (ltb row rows && ltb column columns) ≡ true → (row < rows) × (column < columns)
-place_parts row column rows columns e = let p = and_parts (ltb row rows) (ltb column columns) e in (ltb-true row rows p.0, ltb-true column columns p.1)
+  place_parts : (row column : ℕ) → (ltb row code.rows && ltb column code.columns) ≡ true → (row < code.rows) × (column < code.columns)
+  place_parts row column e = let p = and_parts _ _ e in (ltb-true _ _ p.0, ltb-true _ _ p.1)
 
-pub put_passed : {F : Type 0} (size : ℕ) (code : CodeMeaning F) (m : Meaning F) (row column : ℕ) → put_decline size code m row column ≡ None → (row < code.rows) × (column < code.columns)
-unfolding put_decline
-put_passed size code m row column e =
-    let t = ltb row code.rows && ltb column code.columns in
-    place_parts row column code.rows code.columns (passed t None OutOfRange (suited_passed size code m (cond t None (Some OutOfRange)) e).2).0
+  pub put_passed : (row column : ℕ) → put_decline size code m row column ≡ None → (code.field_size ≤ size) × (fits code m ≡ true) × (row < code.rows) × (column < code.columns)
+  unfolding put_decline
+  put_passed row column e = let p = suited_passed size code m _ e in let q = place_parts row column (passed _ _ _ p.2).0 in (p.0, p.1, q.0, q.1)
 
-pub fetch_passed : {F : Type 0} (size : ℕ) (code : CodeMeaning F) (m : Meaning F) (row column n : ℕ) → fetch_decline size code m row column n ≡ None → (row < code.rows) × (column < code.columns)
-unfolding fetch_decline
-fetch_passed size code m row column n e =
-    let t = ltb row code.rows && ltb column code.columns in
-    let last = cond (leb code.fetch_room n) None (Some ShortMemory) in
-    place_parts row column code.rows code.columns (passed t last OutOfRange (suited_passed size code m (cond t last (Some OutOfRange)) e).2).0
+  pub fetch_passed : (row column n : ℕ) → fetch_decline size code m row column n ≡ None → (code.field_size ≤ size) × (fits code m ≡ true) × (row < code.rows) × (column < code.columns) × (code.fetch_room ≤ n)
+  unfolding fetch_decline
+  fetch_passed row column n e =
+      let p = suited_passed size code m _ e in
+      let s = passed _ _ _ p.2 in
+      let q = place_parts row column s.0 in
+      (p.0, p.1, q.0, q.1, leb-true _ _ (passed _ _ _ s.1).0)
 
-pub mend_passed : {F : Type 0} (size : ℕ) (code : CodeMeaning F) (m : Meaning F) (node n : ℕ) → mend_decline size code m node n ≡ None → node < code.nodes
-unfolding mend_decline
-mend_passed size code m node n e =
-    let last = cond (leb (code.mend_room node) n) (cond (lost code m node) None (Some NotLost)) (Some ShortMemory) in
-    ltb-true node code.nodes (passed (ltb node code.nodes) last OutOfRange (suited_passed size code m (cond (ltb node code.nodes) last (Some OutOfRange)) e).2).0
+  pub mend_passed : (node n : ℕ) → mend_decline size code m node n ≡ None → (code.field_size ≤ size) × (fits code m ≡ true) × (node < code.nodes) × (code.mend_room node ≤ n)
+  unfolding mend_decline
+  mend_passed node n e = let p = suited_passed size code m _ e in let s = passed _ _ _ p.2 in (p.0, p.1, ltb-true _ _ s.0, leb-true _ _ (passed _ _ _ s.1).0)
 
 -- a mend that no input and no memory declines
 pub mend_open : {F : Type 0} (size : ℕ) (code : CodeMeaning F) (m : Meaning F) (node n : ℕ) → code.field_size ≤ size → fits code m ≡ true → node < code.nodes → code.mend_room node ≤ n → lost code m node ≡ true → mend_decline size code m node n ≡ None
@@ -78,11 +76,11 @@ fits_on code m i j e li lj =
     and_from (ltb i m.rows) (ltb j m.nodes) (lt-ltb i m.rows (omega (arith, p.0))) (lt-ltb j m.nodes (omega (arith, p.1)))
 
 held_some : {F : Type 0} (x : Option F) (meter life row node : ℕ) (s : F) → judged x meter life row node ≡ Ok s → x ≡ Some s
-held_some None meter life row node s e = let z : ◌≡◌ {A = ℕ} 0 1 = cc in absurd (omega arith)
+held_some None meter life row node s e = cc
 held_some {F} (Some t) meter life row node s e = go (eqb meter life) e
   where
     go : (b : Bool) → cond b (Err (fault row node Worn)) (Ok t) ≡ Ok s → Some t ≡ Some s
-    go true q = let z : ◌≡◌ {A = ℕ} 0 1 = cc in absurd (omega arith)
+    go true q = cc
     go false q = cc
 
 -- what a probe answers is held
@@ -91,7 +89,7 @@ probed_some {F} m i j s e = go (on m i j) e
   where
     go : (b : Bool) → cond b (judged (m.symbol i j) (m.meter i j) m.life i j) (Err (fault i j OffStore)) ≡ Ok s → m.symbol i j ≡ Some s
     go true h = held_some (m.symbol i j) (m.meter i j) m.life i j s h
-    go false h = let z : ◌≡◌ {A = ℕ} 0 1 = cc in absurd (omega arith)
+    go false h = cc
 
 -- a probe of a place that is on the store, held and not worn
 pub probed_held : {F : Type 0} (m : Meaning F) (i j : ℕ) (s : F) → on m i j ≡ true → m.symbol i j ≡ Some s → (m.meter i j ≡ m.life → ⊥) → probed m i j ≡ Ok s
@@ -107,11 +105,11 @@ unlost m node zero e i l = absurd (omega arith)
 unlost {F} m node (suc n) e i l = go (is_blank (m.symbol n node)) refl e (unlost m node n)
   where
     some : (x : Option F) → is_blank x ≡ false → (s : F) × (x ≡ Some s)
-    some None q = let z : ◌≡◌ {A = ℕ} 0 1 = cc in absurd (omega arith)
+    some None q = cc
     some (Some s) q = (s, refl)
 
     go : (b : Bool) → is_blank (m.symbol n node) ≡ b → (b || any_blank m node n) ≡ false → (any_blank m node n ≡ false → (i : ℕ) → i < n → (s : F) × (m.symbol i node ≡ Some s)) → (s : F) × (m.symbol i node ≡ Some s)
-    go true q h rest = let z : ◌≡◌ {A = ℕ} 0 1 = cc in absurd (omega arith)
+    go true q h rest = cc
     go false q h rest = last (cases_eq i n)
       where
         last : (i ≡ n) ⊎ (i ≡ n → ⊥) → (s : F) × (m.symbol i node ≡ Some s)

@@ -1,5 +1,6 @@
 -- Sums over rows and nodes, and how many places a sheet has. Assumes nothing.
 use Rattle.std.proofs.Common.{◌≡◌, ℕ, zero, suc, ◌+◌, ◌*◌, ◌<◌, ◌≤◌, Bool, true, false, cond, ◌&&◌, ◌||◌, eqb, ◌⊎◌, List, [], ◌∷◌, ◌++◌, length, sym, refl, ap, ◌∙◌, inl, inr, suc-mul, arith}
+use Rattle.std.proofs.Math.Bool.{and-true, and-false}
 use Rattle.std.proofs.lemmas.List.{length_push}
 use Rattle.std.proofs.lemmas.Bool.{eq-eqb, ne_eqb, cond-true, cond-false, cases_eq, both_ways, or_left, or_right}
 use Rattle.store.specs.Meaning.{total}
@@ -81,16 +82,8 @@ grid_one a b rows nodes la lb =
     total_ext (λ j. total (λ i. bit (eqb i a && eqb j b)) rows) (λ j. bit (eqb j b)) nodes (λ j lj. column j (eqb j b)) ∙ total_one b nodes lb
   where
     column : (j : ℕ) (t : Bool) → total (λ i. bit (eqb i a && t)) rows ≡ bit t
-    column j true = total_ext (λ i. bit (eqb i a && true)) (λ i. bit (eqb i a)) rows (λ i li. both (eqb i a)) ∙ total_one a rows la
-      where
-        both : (s : Bool) → bit (s && true) ≡ bit s
-        both true = refl
-        both false = refl
-    column j false = total_ext (λ i. bit (eqb i a && false)) (λ _. 0) rows (λ i li. none (eqb i a)) ∙ total_zero rows
-      where
-        none : (s : Bool) → bit (s && false) ≡ 0
-        none true = refl
-        none false = refl
+    column j true = total_ext (λ i. bit (eqb i a && true)) (λ i. bit (eqb i a)) rows (λ i li. ap bit (and-true (eqb i a))) ∙ total_one a rows la
+    column j false = total_ext (λ i. bit (eqb i a && false)) (λ _. 0) rows (λ i li. ap bit (and-false (eqb i a))) ∙ total_zero rows
 
 -- how many places of the grid a list has
 unfoldable pub on_grid : List Place → ℕ → ℕ → ℕ

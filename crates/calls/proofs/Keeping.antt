@@ -1,7 +1,7 @@
 -- Each accepted call keeps the claims, and so does every declined one. Assumes nothing.
 use Rattle.std.proofs.Common.{◌≡◌, ℕ, ◌+◌, ◌*◌, ◌<◌, ◌≤◌, Bool, true, false, cond, ◌&&◌, eqb, ltb, List, [], ◌∷◌, length, get_or, Some, None, Ok, Err, Option, Result, sym, refl, ap, ◌∙◌, subst, arith}
 use mathlib.Core.Path.{fun_ext}
-use Rattle.std.proofs.lemmas.Bool.{lt-ltb, le-ltb, eqb-true, ne_eqb, and_from, and_parts, cond-true, cond-false}
+use Rattle.std.proofs.lemmas.Bool.{lt-ltb, le-ltb, eqb-true, ne_eqb, false_from_ne_true, and_right, and_from, and_parts, cond-true, cond-false}
 use Rattle.field.specs.Laws.{Operations}
 use Rattle.store.specs.Meaning.{Meaning, probed, cleared, refreshed}
 use Rattle.sheet.specs.declared.place.Place.{Place}
@@ -25,22 +25,14 @@ Clear {F} m es = (i j : ℕ) → listed (places_of es) (at i j) ≡ true → (s 
 
 -- a place of a list that stands inside does not stand outside
 pub unlisted_row : (ps : List Place) (rows nodes i j : ℕ) → ((i j : ℕ) → listed ps (at i j) ≡ true → (i < rows) × (j < nodes)) → rows ≤ i → listed ps (at i j) ≡ false
-unlisted_row ps rows nodes i j inside l = go (listed ps (at i j)) refl
-  where
-    go : (b : Bool) → listed ps (at i j) ≡ b → b ≡ false
-    go true e = absurd (omega (arith, (inside i j e).0))
-    go false e = refl
+unlisted_row ps rows nodes i j inside l = false_from_ne_true (listed ps (at i j)) (λ e. omega (arith, (inside i j e).0))
 
 pub unlisted_node : (ps : List Place) (rows nodes i j : ℕ) → ((i j : ℕ) → listed ps (at i j) ≡ true → (i < rows) × (j < nodes)) → nodes ≤ j → listed ps (at i j) ≡ false
-unlisted_node ps rows nodes i j inside l = go (listed ps (at i j)) refl
-  where
-    go : (b : Bool) → listed ps (at i j) ≡ b → b ≡ false
-    go true e = absurd (omega (arith, (inside i j e).1))
-    go false e = refl
+unlisted_node ps rows nodes i j inside l = false_from_ne_true (listed ps (at i j)) (λ e. omega (arith, (inside i j e).1))
 
 -- what a test left as it was
 kept_none : {F : Type 0} (b : Bool) (x : Option F) (s : F) → cond b None x ≡ Some s → x ≡ Some s
-kept_none true x s q = let z : ◌≡◌ {A = ℕ} 0 1 = cc in absurd (omega arith)
+kept_none true x s q = cc
 kept_none false x s q = q
 
 none_kept : {F : Type 0} (b : Bool) (x : Option F) → x ≡ None → cond b None x ≡ None
@@ -50,10 +42,6 @@ none_kept false x q = q
 zero_kept : (b : Bool) (x : ℕ) → x ≡ 0 → cond b 0 x ≡ 0
 zero_kept true x q = refl
 zero_kept false x q = q
-
-and_false : (a b : Bool) → b ≡ false → (a && b) ≡ false
-and_false true b e = e
-and_false false b e = refl
 
 module _ {F : Type 0} (o : Operations F) (code : CodeMeaning F) (m₀ : Meaning F) where
   abbrev pub event : Ask F → ℕ → Result (Answer F) CallFault → Event F
@@ -79,7 +67,7 @@ module _ {F : Type 0} (o : Operations F) (code : CodeMeaning F) (m₀ : Meaning 
         sizes = (refl, refl, refl);
         right = λ i j s li lj e.
             let n : cond (ltb j code.nodes) None (m₀.symbol i j) ≡ None = cond-true (ltb j code.nodes) None (m₀.symbol i j) (lt-ltb j code.nodes lj) in
-            let z : ◌≡◌ {A = ℕ} 0 1 = cc in absurd (omega arith);
+            cc;
         none = λ _ i j lj. cond-true (ltb j code.nodes) None (m₀.symbol i j) (lt-ltb j code.nodes lj);
         spare_rows = λ i j li lj. (cond-true (ltb j code.nodes) None (m₀.symbol i j) (lt-ltb j code.nodes lj), cond-true (ltb j code.nodes) 0 (m₀.meter i j) (lt-ltb j code.nodes lj));
         spare_nodes = λ i j lj. (cond-false (ltb j code.nodes) None (m₀.symbol i j) (le-ltb j code.nodes lj), cond-false (ltb j code.nodes) 0 (m₀.meter i j) (le-ltb j code.nodes lj));
@@ -114,7 +102,7 @@ module _ {F : Type 0} (o : Operations F) (code : CodeMeaning F) (m₀ : Meaning 
     none = λ e i j lj. none_kept (ltb node m.nodes && eqb j node) (m.symbol i j) (c.none e i j lj);
     spare_rows = λ i j li lj. let p = c.spare_rows i j li lj in (none_kept (ltb node m.nodes && eqb j node) (m.symbol i j) p.0, zero_kept (ltb node m.nodes && eqb j node) (m.meter i j) p.1);
     spare_nodes = λ i j lj.
-        let t : (ltb node m.nodes && eqb j node) ≡ false = and_false (ltb node m.nodes) (eqb j node) (ne_eqb j node (λ q. omega arith)) in
+        let t : (ltb node m.nodes && eqb j node) ≡ false = and_right (ltb node m.nodes) (eqb j node) (ne_eqb j node (λ q. omega arith)) in
         let p = c.spare_nodes i j lj in
         (cond-false (ltb node m.nodes && eqb j node) None (m.symbol i j) t ∙ p.0, cond-false (ltb node m.nodes && eqb j node) 0 (m.meter i j) t ∙ p.1);
     balance = omega (arith, c.balance, sums);
@@ -132,7 +120,7 @@ module _ {F : Type 0} (o : Operations F) (code : CodeMeaning F) (m₀ : Meaning 
     none = c.none;
     spare_rows = λ i j li lj. let p = c.spare_rows i j li lj in (p.0, zero_kept (ltb node m.nodes && eqb j node) (m.meter i j) p.1);
     spare_nodes = λ i j lj.
-        let t : (ltb node m.nodes && eqb j node) ≡ false = and_false (ltb node m.nodes) (eqb j node) (ne_eqb j node (λ q. omega arith)) in
+        let t : (ltb node m.nodes && eqb j node) ≡ false = and_right (ltb node m.nodes) (eqb j node) (ne_eqb j node (λ q. omega arith)) in
         let p = c.spare_nodes i j lj in
         (p.0, cond-false (ltb node m.nodes && eqb j node) 0 (m.meter i j) t ∙ p.1);
     balance = omega (arith, c.balance, sums);
@@ -148,7 +136,7 @@ module _ {F : Type 0} (o : Operations F) (code : CodeMeaning F) (m₀ : Meaning 
     full_some l full empty =
         let p = full 0 0 laws.some_row laws.some_column in
         let e = empty 0 0 in
-        let z : ◌≡◌ {A = ℕ} 0 1 = cc in omega arith
+        cc
 
     pub kept_set : (h : List (Event F)) (xs : List F) (n : ℕ) (m : Meaning F) → Claims o code m₀ h m
         → Claims o code m₀ (event (set xs) n (Ok (Counted 0)) ∷ h) (array_set code m (data_of o.zero code xs))
@@ -158,7 +146,7 @@ module _ {F : Type 0} (o : Operations F) (code : CodeMeaning F) (m₀ : Meaning 
       right = λ i j s li lj q. (full, let v = cond-true (ltb i code.rows && ltb j code.nodes) (Some (code.symbol (data_of o.zero code xs) i j)) (m.symbol i j) (inside i j li lj) in let w : s ≡ code.symbol (data_of o.zero code xs) i j = cc in w ∙ ap (λ d. code.symbol d i j) (sym same));
       none = λ e. absurd (full_some _ full e);
       spare_rows = λ i j li lj. let p = c.spare_rows i j li lj in (cond-false (ltb i code.rows && ltb j code.nodes) _ (m.symbol i j) (below i j li) ∙ p.0, p.1);
-      spare_nodes = λ i j lj. let p = c.spare_nodes i j lj in (cond-false (ltb i code.rows && ltb j code.nodes) _ (m.symbol i j) (and_false (ltb i code.rows) (ltb j code.nodes) (le-ltb j code.nodes lj)) ∙ p.0, p.1);
+      spare_nodes = λ i j lj. let p = c.spare_nodes i j lj in (cond-false (ltb i code.rows && ltb j code.nodes) _ (m.symbol i j) (and_right (ltb i code.rows) (ltb j code.nodes) (le-ltb j code.nodes lj)) ∙ p.0, p.1);
       balance = omega (arith, c.balance);
     }
       where
@@ -275,7 +263,7 @@ module _ {F : Type 0} (o : Operations F) (code : CodeMeaning F) (m₀ : Meaning 
           (cond-false (ltb i code.rows && eqb j node) _ (m.symbol i j) (ap (λ b. b && eqb j node) (le-ltb i code.rows li)) ∙ p.0, spare_row_meter m _ inside i j li ∙ p.1);
       spare_nodes = λ i j lj.
           let p = c.spare_nodes i j lj in
-          (cond-false (ltb i code.rows && eqb j node) _ (m.symbol i j) (and_false (ltb i code.rows) (eqb j node) (ne_eqb j node (λ q. omega arith))) ∙ p.0, spare_node_meter m _ inside i j lj ∙ p.1);
+          (cond-false (ltb i code.rows && eqb j node) _ (m.symbol i j) (and_right (ltb i code.rows) (eqb j node) (ne_eqb j node (λ q. omega arith))) ∙ p.0, spare_node_meter m _ inside i j lj ∙ p.1);
       balance = let e : all_meters code (mended o.zero code m node) ≡ all_meters code m + length (mend_sheet code m node) = read_meters m (code.mend (blanks m) node).entries fit (recovers 0 laws.some_row).inside in omega (arith, c.balance);
     }
       where

@@ -1,5 +1,5 @@
 -- How a call can end: accepted, with what it answers and leaves, or declined for a reason, with nothing changed. Assumes nothing.
-use Rattle.std.proofs.Common.{◌≡◌, ℕ, ◌≤◌, Bool, true, false, cond, ◌⊎◌, List, Some, None, Ok, Err, Option, Result, sym, refl, ap, ◌∙◌, subst, inl, inr, arith}
+use Rattle.std.proofs.Common.{◌≡◌, ℕ, ◌≤◌, Bool, true, false, cond, ◌⊎◌, List, Some, None, Ok, Err, Option, Result, sym, refl, ap, ◌∙◌, subst, inl, inr}
 use Rattle.store.specs.Meaning.{Meaning}
 use Rattle.sheet.specs.declared.place.Entry.{Entry}
 use Rattle.code.specs.Codes.{CodeMeaning}
@@ -55,26 +55,26 @@ abbrev pub Others : Option Reason → Type 0
 Others d = (e : Reason) → d ≡ Some e → Other e
 
 pub others_none : Others None
-others_none e q = let z : ◌≡◌ {A = ℕ} 0 1 = cc in absurd (omega arith)
+others_none e q = cc
 
 pub others_cond : (b : Bool) (d : Option Reason) (x : Reason) → Others d → Other x → Others (cond b d (Some x))
 others_cond true d x o n e q = o e q
 others_cond false d x o n e q = let w : x ≡ e = cc in ((λ u. n.0 (w ∙ u)), (λ u. n.1 (w ∙ u)))
 
 pub other_range : Other OutOfRange
-other_range = ((λ q. let z : ◌≡◌ {A = ℕ} 0 1 = cc in omega arith), (λ q. let z : ◌≡◌ {A = ℕ} 0 1 = cc in omega arith))
+other_range = ((λ q. cc), (λ q. cc))
 
 pub other_length : Other WrongLength
-other_length = ((λ q. let z : ◌≡◌ {A = ℕ} 0 1 = cc in omega arith), (λ q. let z : ◌≡◌ {A = ℕ} 0 1 = cc in omega arith))
+other_length = ((λ q. cc), (λ q. cc))
 
 pub other_memory : Other ShortMemory
-other_memory = ((λ q. let z : ◌≡◌ {A = ℕ} 0 1 = cc in omega arith), (λ q. let z : ◌≡◌ {A = ℕ} 0 1 = cc in omega arith))
+other_memory = ((λ q. cc), (λ q. cc))
 
 pub other_lost : Other NotLost
-other_lost = ((λ q. let z : ◌≡◌ {A = ℕ} 0 1 = cc in omega arith), (λ q. let z : ◌≡◌ {A = ℕ} 0 1 = cc in omega arith))
+other_lost = ((λ q. cc), (λ q. cc))
 
 other_sheet : (e : Reason) (t : SheetFault) → e ≡ Sheet t → Other e
-other_sheet e t w = ((λ q. let z : ◌≡◌ {A = ℕ} 0 1 = cc in omega arith), (λ q. let z : ◌≡◌ {A = ℕ} 0 1 = cc in omega arith))
+other_sheet e t w = ((λ q. cc), (λ q. cc))
 
 -- where field and store are large enough, only the rest declines
 pub others_suited : {F : Type 0} (size : ℕ) (code : CodeMeaning F) (m : Meaning F) (rest : Option Reason) → code.field_size ≤ size → fits code m ≡ true → Others rest → Others (suited size code m rest)
@@ -84,8 +84,8 @@ pub suited_outcome : {F : Type 0} (d : Option Reason) (es : List Entry) (a : Ans
 suited_outcome {F} d es a m m₂ r m' o (inl t) =
     let e = t.answer in
     record {
-      field = λ f q _. let z : ◌≡◌ {A = ℕ} 0 1 = cc in omega arith;
-      store = λ f q _. let z : ◌≡◌ {A = ℕ} 0 1 = cc in omega arith;
+      field = λ f q _. cc;
+      store = λ f q _. cc;
     }
 suited_outcome {F} d es a m m₂ r m' o (inr t) =
     record { field = λ f q w. (other t.for).0 (reasons f q ∙ w); store = λ f q w. (other t.for).1 (reasons f q ∙ w) }

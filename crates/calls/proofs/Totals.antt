@@ -22,7 +22,7 @@ meters_raised m xs n h =
 -- a node's meters at 0; b is the test that the node is on the store
 pub meters_cleared : {F : Type 0} (m : Meaning F) (node n : ℕ) (b : Bool) → b ≡ true → node < n → total (λ j. total (λ i. cond (b && eqb j node) 0 (m.meter i j)) m.rows) n + node_meters m node ≡ total (λ j. node_meters m j) n
 unfolding node_meters
-meters_cleared m node n false e l = let z : ◌≡◌ {A = ℕ} 0 1 = cc in absurd (omega arith)
+meters_cleared m node n false e l = cc
 meters_cleared m node n true e l =
     ap (λ t. t + total (λ i. m.meter i node) m.rows) (total_ext (λ j. total (λ i. cond (eqb j node) 0 (m.meter i j)) m.rows) (λ j. cond (eqb j node) 0 (total (λ i. m.meter i j) m.rows)) n (λ j lj. column j (eqb j node)))
     ∙ total_cut (λ j. total (λ i. m.meter i j) m.rows) node n l
@@ -37,4 +37,4 @@ meters_blank m n = total_ext (λ j. total (λ i. cond (ltb j n) 0 (m.meter i j))
   where
     column : (j : ℕ) (b : Bool) → b ≡ true → total (λ i. cond b 0 (m.meter i j)) m.rows ≡ 0
     column j true e = total_zero m.rows
-    column j false e = let z : ◌≡◌ {A = ℕ} 0 1 = cc in absurd (omega arith)
+    column j false e = cc

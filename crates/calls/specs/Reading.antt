@@ -38,7 +38,7 @@ blank_below n m = record { rows = m.rows; nodes = m.nodes; life = m.life; symbol
 
 -- a record of working memory as an accepted call leaves it: place 0, 0 with symbol zero
 unfoldable pub blank_record : {F : Type 0} → F → Record F
-blank_record z = record { row = 0; node = 0; symbol = z }
+blank_record z = record { place = at 0 0; symbol = z }
 
 unfoldable pub wiped : {F : Type 0} → F → List (Record F) → List (Record F)
 wiped z memory = map (λ _. blank_record z) memory

@@ -13,6 +13,7 @@ pub enum CallName {
     Mend,
 }
 
+// Kept: a row and a data node are two words of a session's line, and a call names them as they come.
 // A call: set has all symbols row by row, put a row, a data node and a symbol, fetch a row and a data node, the others a node.
 #[derive(Clone, Copy)]
 pub enum Call<'c, F> {

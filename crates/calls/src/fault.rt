@@ -37,6 +37,6 @@ pub fn named(fault: SheetFault, call: CallName, part: Part) -> SheetFault
     SheetFault {
         call,
         part,
-        fault: fault.fault,
+        ..fault
     }
 }

@@ -19,6 +19,7 @@ impl CallFault {
     pub fn number(self) -> u8
         ensures { result ≡ fault_number self }
     {
+        // Kept: a sheet's reason brings a fault with it, so the reasons are no plain numbers.
         match self.reason {
             Reason::SmallField => 15,
             Reason::SmallStore => 16,

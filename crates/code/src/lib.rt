@@ -39,8 +39,11 @@ pub trait Patch<F: NumberedField>: Listing + Drop {
 }
 
 // An erasure code over the field F.
+// Kept: `fine` is asked at each method, since a code may be held over a field too small for it, and says so by `field_size`.
 pub trait Code<F: NumberedField>: Copy {
-    type Plan: ReadPlan<F>;
+    type MendPlan: ReadPlan<F>;
+
+    type FetchPlan: ReadPlan<F>;
 
     type Column: Solver<F>;
 
@@ -74,24 +77,24 @@ pub trait Code<F: NumberedField>: Copy {
         ensures solved { (d : ℕ → ℕ → F) (row : ℕ) → row < (code self.now).rows → Self.Column.Solver.solved result d row ≡ (code self.now).symbol d row node };
 
     // How a node is mended.
-    fn mend_plan<S: Store<F>>(&self, store: &S, node: usize) -> Self::Plan
+    fn mend_plan<S: Store<F>>(&self, store: &S, node: usize) -> Self::MendPlan
         requires fine { (code self.now).field_size ≤ F.NumberedField.size }
         requires room { ((code self.now).rows ≤ (S.Store.meaning store.now).rows) × ((code self.now).nodes ≤ (S.Store.meaning store.now).nodes) }
         requires node { node < (code self.now).nodes }
-        ensures entries { Self.Plan.Listing.entries result ≡ ((code self.now).mend (blanks (S.Store.meaning store.now)) node).entries }
-        ensures ready { (row : ℕ) → row < (code self.now).rows → Self.Plan.Solver.ready result row }
-        ensures solved { (f : ℕ → ℕ → F) (row : ℕ) → row < (code self.now).rows → Self.Plan.Solver.solved result f row ≡ ((code self.now).mend (blanks (S.Store.meaning store.now)) node).symbol f row }
-        ensures slots { Slotted (Self.Plan.Listing.entries result) (Self.Plan.ReadPlan.slot result) ((code self.now).mend_room node) };
+        ensures entries { Self.MendPlan.Listing.entries result ≡ ((code self.now).mend (blanks (S.Store.meaning store.now)) node).entries }
+        ensures ready { (row : ℕ) → row < (code self.now).rows → Self.MendPlan.Solver.ready result row }
+        ensures solved { (f : ℕ → ℕ → F) (row : ℕ) → row < (code self.now).rows → Self.MendPlan.Solver.solved result f row ≡ ((code self.now).mend (blanks (S.Store.meaning store.now)) node).symbol f row }
+        ensures slots { Slotted (Self.MendPlan.Listing.entries result) (Self.MendPlan.ReadPlan.slot result) ((code self.now).mend_room node) };
 
     // How a blank data place is fetched.
-    fn fetch_plan<S: Store<F>>(&self, store: &S, row: usize, column: usize) -> Self::Plan
+    fn fetch_plan<S: Store<F>>(&self, store: &S, row: usize, column: usize) -> Self::FetchPlan
         requires fine { (code self.now).field_size ≤ F.NumberedField.size }
         requires room { ((code self.now).rows ≤ (S.Store.meaning store.now).rows) × ((code self.now).nodes ≤ (S.Store.meaning store.now).nodes) }
         requires place { (row < (code self.now).rows) × (column < (code self.now).columns) }
-        ensures entries { Self.Plan.Listing.entries result ≡ ((code self.now).fetch (blanks (S.Store.meaning store.now)) row column).entries }
-        ensures ready { Self.Plan.Solver.ready result row }
-        ensures solved { (f : ℕ → ℕ → F) → Self.Plan.Solver.solved result f row ≡ ((code self.now).fetch (blanks (S.Store.meaning store.now)) row column).symbol f row }
-        ensures slots { Slotted (Self.Plan.Listing.entries result) (Self.Plan.ReadPlan.slot result) (code self.now).fetch_room };
+        ensures entries { Self.FetchPlan.Listing.entries result ≡ ((code self.now).fetch (blanks (S.Store.meaning store.now)) row column).entries }
+        ensures ready { Self.FetchPlan.Solver.ready result row }
+        ensures solved { (f : ℕ → ℕ → F) → Self.FetchPlan.Solver.solved result f row ≡ ((code self.now).fetch (blanks (S.Store.meaning store.now)) row column).symbol f row }
+        ensures slots { Slotted (Self.FetchPlan.Listing.entries result) (Self.FetchPlan.ReadPlan.slot result) (code self.now).fetch_room };
 
     // What a put of a data place changes.
     fn put_patch(&self, row: usize, column: usize) -> Self::Patch

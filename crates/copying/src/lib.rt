@@ -21,13 +21,9 @@ fn ready_row<F: NumberedField, P: Store<F>, Q: Store<F>>(
 ) -> Result<(), CopyFault>
     ensures { result ≡ answered (row_fault (P.Store.meaning from.now) source (Q.Store.meaning to.now) target row) }
 {
-    match from.probe(row, source) {
-        Err(fault) => Err(CopyFault::Source(fault)),
-        Ok(_) => match to.meter(row, target) {
-            Err(fault) => Err(CopyFault::Target(fault)),
-            Ok(_) => Ok(()),
-        },
-    }
+    from.probe(row, source).map_err(CopyFault::Source)?;
+    to.meter(row, target).map_err(CopyFault::Target)?;
+    Ok(())
 }
 
 // Whether each row of the node can be copied.
@@ -59,11 +55,8 @@ fn carry<F: NumberedField, P: Store<F>, Q: Store<F>>(
 {
     let rows = from.rows();
     for row in 0..rows {
-        match from.read(row, source) {
-            Ok(symbol) => {
-                let _ = to.write(row, target, symbol);
-            }
-            Err(_) => {}
+        if let Ok(symbol) = from.read(row, source) {
+            let _ = to.write(row, target, symbol);
         }
     }
 }

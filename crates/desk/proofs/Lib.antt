@@ -1,3 +1,1 @@
-pub mod Rooms
-pub mod Adding
 pub mod Continuing

@@ -1,5 +1,5 @@
 -- What a request to an engine with its store is answered. Assumes nothing.
-use Rattle.std.specs.Prelude.{◌≡◌, ℕ, ◌⊎◌, List, map, Option, Result}
+use Rattle.std.specs.Prelude.{◌≡◌, ℕ, ◌⊎◌, List, map, Err, Option, Result}
 use Rattle.field.specs.Laws.{Operations}
 use Rattle.store.specs.Meaning.{Meaning}
 use Rattle.calls.specs.declared.call.Answer.{Answer}
@@ -10,10 +10,8 @@ use Rattle.requests.specs.Phrases.{symbols}
 use Rattle.requests.specs.declared.request.Request.{Request}
 use Rattle.requests.specs.declared.request.Request.TheVariants.{Make, Set, Put, Fetch, Lose, Refresh, Mend}
 use Rattle.symbols.specs.Reading.{NoSymbol}
-use Rattle.answers.specs.Lines.{answer_line}
+use Rattle.answers.specs.Lines.{Reply, answer_line}
 use Rattle.answers.specs.declared.decline.Decline.TheVariants.{NotSymbol, AlreadyMade}
-use Rattle.answers.specs.declared.reply.Reply.{Reply}
-use Rattle.answers.specs.declared.reply.Reply.TheVariants.{Declined}
 use Rattle.desk.specs.declared.machine.Machine.{Machine}
 use Rattle.desk.specs.Engines.{Serving}
 use Rattle.desk.specs.Replies.{reply_of}
@@ -39,7 +37,7 @@ pub record Called {F S : Type 0} (o : Operations F) (symbol : ℕ → Option F) 
 pub record Unread {F S : Type 0} (written : F → List ℕ) (request : Request) (m t : Machine F S) (reply : Reply F) : Type 0 where
   pub word : NoSymbol written (symbols request)
   pub kept : t ≡ m
-  pub replied : reply ≡ Declined NotSymbol
+  pub replied : reply ≡ Err NotSymbol
 
 -- the request's call is served
 pub record Served {F S : Type 0} (o : Operations F) (symbol : ℕ → Option F) (size : ℕ) (written : F → List ℕ) (meaning : S → Meaning F) (request : Request) (m t : Machine F S) (reply : Reply F) : Type 0 where
@@ -53,7 +51,7 @@ Replies o symbol size written meaning request m t reply = Unread written request
 
 -- what a machine replies to any request: a make comes after an accepted make
 abbrev pub Answers : {F S : Type 0} → Operations F → (ℕ → Option F) → ℕ → (F → List ℕ) → (S → Meaning F) → Request → Machine F S → Machine F S → Reply F → Type 0
-Answers o symbol size written meaning (Make field store k a tau b) m t reply = (t ≡ m) × (reply ≡ Declined AlreadyMade)
+Answers o symbol size written meaning (Make field store k a tau b) m t reply = (t ≡ m) × (reply ≡ Err AlreadyMade)
 Answers o symbol size written meaning (Set ws) m t reply = Replies o symbol size written meaning (Set ws) m t reply
 Answers o symbol size written meaning (Put row node word) m t reply = Replies o symbol size written meaning (Put row node word) m t reply
 Answers o symbol size written meaning (Fetch row node) m t reply = Replies o symbol size written meaning (Fetch row node) m t reply

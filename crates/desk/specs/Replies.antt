@@ -13,11 +13,11 @@ use Rattle.array.specs.declared.fault.ParameterFault as parameter
 use Rattle.repair.specs.declared.fault.MakeFault.{MakeFault}
 use Rattle.repair.specs.declared.fault.MakeFault.TheVariants.{Unfit}
 use Rattle.repair.specs.declared.fault.MakeFault as makefault
-use Rattle.answers.specs.declared.decline.Place.{Place}
 use Rattle.answers.specs.declared.decline.Decline.{Decline}
 use Rattle.answers.specs.declared.decline.Decline.TheVariants.{DataNodes, ClassANodes, Piggybacks, ClassBNodes, SmallField, SmallStore, OutOfRange, WrongLength, ShortMemory, NotLost, Blank, Worn}
-use Rattle.answers.specs.declared.reply.Reply.{Reply}
-use Rattle.answers.specs.declared.reply.Reply.TheVariants.{Counted, Cleared, Fetched, Declined}
+use Rattle.answers.specs.declared.reply.Accepted.TheVariants.{Counted, Cleared, Fetched}
+use Rattle.answers.specs.Lines.{Reply}
+use Rattle.sheet.specs.declared.place.Place.{Place}
 
 abbrev pub place_of : StoreFault → Place
 place_of f = record { row = f.row; node = f.node }
@@ -55,7 +55,7 @@ make_decline makefault.TheVariants.SmallStore = SmallStore
 
 -- the reply to a call
 abbrev pub reply_of : {F : Type 0} → Result (Answer F) CallFault → Reply F
-reply_of (Ok (answer.TheVariants.Counted count)) = Counted count
-reply_of (Ok (answer.TheVariants.Fetched count symbol)) = Fetched count symbol
-reply_of (Ok (answer.TheVariants.Cleared sum)) = Cleared sum
-reply_of (Err fault) = Declined (fault_decline fault)
+reply_of (Ok (answer.TheVariants.Counted count)) = Ok (Counted count)
+reply_of (Ok (answer.TheVariants.Fetched count symbol)) = Ok (Fetched count symbol)
+reply_of (Ok (answer.TheVariants.Cleared sum)) = Ok (Cleared sum)
+reply_of (Err fault) = Err (fault_decline fault)

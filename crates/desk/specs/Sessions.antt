@@ -9,9 +9,7 @@ use Rattle.lines.specs.declared.line.LineFault.{LineFault}
 use Rattle.requests.specs.declared.request.Request.{Request}
 use Rattle.requests.specs.Reading.{Read}
 use Rattle.answers.specs.Declines.{line_decline}
-use Rattle.answers.specs.Lines.{answer_line}
-use Rattle.answers.specs.declared.reply.Reply.{Reply}
-use Rattle.answers.specs.declared.reply.Reply.TheVariants.{Declined}
+use Rattle.answers.specs.Lines.{Reply, answer_line}
 use Rattle.desk.specs.declared.machine.Machine.{Machine}
 use Rattle.desk.specs.declared.state.State.{State}
 use Rattle.desk.specs.declared.state.State.TheVariants.{New, DecimalBank, DecimalImage, ByteBank, ByteImage}
@@ -41,7 +39,7 @@ StateAnswers (ByteImage m) request t bytes = Continued (Answered byte_operations
 
 -- a line that breaks a rule is declined by it, and leaves the session as it is
 abbrev pub LineAnswers : Desk → Result Request LineFault → Desk → List ℕ → Type 0
-LineAnswers s (Err fault) t bytes = (t ≡ s) × (bytes ≡ answer_line decimal_word (Declined (line_decline fault)))
+LineAnswers s (Err fault) t bytes = (t ≡ s) × (bytes ≡ answer_line decimal_word (Err (line_decline fault)))
 LineAnswers s (Ok request) t bytes = StateAnswers s.state request t.state bytes
 
 -- WHAT A LINE IS ANSWERED in a session: the bytes, and the session after it

@@ -8,7 +8,6 @@ use crate::making::first;
 use crate::serving::answer_on;
 use crate::state::{Desk, State};
 use answers::decline::Decline;
-use answers::reply::Reply;
 use answers::writing::write_reply;
 use field::Decimal;
 use requests::read_line;
@@ -31,6 +30,7 @@ fn answer_in(
             *state = next;
             write_reply(reply, out)
         }
+        // Kept: the machine of each arm is of another type, so no one arm takes them all.
         State::DecimalBank(machine) => answer_on(heap, machine, request, out),
         State::DecimalImage(machine) => answer_on(heap, machine, request, out),
         State::ByteBank(machine) => answer_on(heap, machine, request, out),
@@ -56,10 +56,7 @@ impl Answerer for Desk {
     fn answer(&mut self, line: &[u8], out: &mut Vec<u8>) -> Result<(), AllocError> {
         match read_line(line) {
             Ok(request) => answer_in(self.heap, &mut self.state, request, out),
-            Err(fault) => {
-                let reply: Reply<Decimal> = Reply::Declined(Decline::from(fault));
-                write_reply(reply, out)
-            }
+            Err(fault) => write_reply::<Decimal>(Err(Decline::from(fault)), out),
         }
     }
 }

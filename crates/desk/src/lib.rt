@@ -2,7 +2,6 @@
 #![tactic(auto)]
 
 pub mod answering;
-pub mod asking;
 pub mod machine;
 pub mod making;
 pub mod replies;

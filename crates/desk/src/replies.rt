@@ -1,15 +1,17 @@
 // How answers and faults of an engine become replies.
+// Kept: the faults and the answers are of other crates, so no From between them may stand here.
 ghost use Rattle.std.specs.Prelude.{◌≡◌};
 ghost use Rattle.answers.specs.Declines.{number_of};
 ghost use Rattle.calls.specs.Numbers.{fault_number};
 ghost use Rattle.desk.specs.Replies.{fault_decline, make_decline, reply_of};
 
-use answers::decline::{Decline, Place};
-use answers::reply::Reply;
+use answers::decline::Decline;
+use answers::reply::{Accepted, Reply};
 use array::ParameterFault;
 use calls::{Answer, CallFault, Reason};
 use repair::MakeFault;
-use store::Cause;
+use sheet::Place;
+use store::{Cause, StoreFault};
 
 // The decline of a call's fault, which has the fault's number and, for a place on the sheet, that place.
 pub fn decline_of(fault: CallFault) -> Decline
@@ -23,17 +25,14 @@ pub fn decline_of(fault: CallFault) -> Decline
         Reason::WrongLength => Decline::WrongLength,
         Reason::ShortMemory => Decline::ShortMemory,
         Reason::NotLost => Decline::NotLost,
-        Reason::Sheet(sheet) => match sheet.fault.cause {
-            Cause::OffStore => Decline::SmallStore,
-            Cause::Blank => Decline::Blank(Place {
-                row: sheet.fault.row,
-                node: sheet.fault.node,
-            }),
-            Cause::Worn => Decline::Worn(Place {
-                row: sheet.fault.row,
-                node: sheet.fault.node,
-            }),
-        },
+        Reason::Sheet(sheet) => {
+            let StoreFault { row, node, cause } = sheet.fault;
+            match cause {
+                Cause::OffStore => Decline::SmallStore,
+                Cause::Blank => Decline::Blank(Place { row, node }),
+                Cause::Worn => Decline::Worn(Place { row, node }),
+            }
+        }
     }
 }
 
@@ -56,9 +55,9 @@ pub fn reply_of<F: Copy>(answer: Result<Answer<F>, CallFault>) -> Reply<F>
     ensures { result ≡ reply_of answer }
 {
     match answer {
-        Ok(Answer::Counted(count)) => Reply::Counted(count),
-        Ok(Answer::Fetched(count, symbol)) => Reply::Fetched(count, symbol),
-        Ok(Answer::Cleared(sum)) => Reply::Cleared(sum),
-        Err(fault) => Reply::Declined(decline_of(fault)),
+        Ok(Answer::Counted(count)) => Ok(Accepted::Counted(count)),
+        Ok(Answer::Fetched(count, symbol)) => Ok(Accepted::Fetched(count, symbol)),
+        Ok(Answer::Cleared(sum)) => Ok(Accepted::Cleared(sum)),
+        Err(fault) => Err(decline_of(fault)),
     }
 }

@@ -6,7 +6,6 @@ ghost use Rattle.desk.specs.Engines.{Serving};
 ghost use Rattle.session.specs.Runs.{Adds};
 ghost use Rattle.desk.specs.Machines.{Called, Replies, Answers, Answered};
 
-use crate::asking::{fetch_call, lose_call, mend_call, put_call, refresh_call};
 use crate::machine::Machine;
 use crate::replies::reply_of;
 use answers::decline::Decline;
@@ -58,45 +57,43 @@ fn reply_set<F: NumberedField + Notation, S: Store<F>>(
 {
     match symbols_of::<F>(heap, words) {
         Ok(symbols) => Ok(machine.serve_call(Call::Set(symbols.as_slice()))),
-        Err(SymbolFault::NotSymbol) => Ok(Reply::Declined(Decline::NotSymbol)),
+        Err(SymbolFault::NotSymbol) => Ok(Err(Decline::NotSymbol)),
         Err(SymbolFault::Memory) => Err(AllocError),
     }
 }
 
 // A put: its word is read as a symbol first.
-fn reply_put<F: NumberedField + Notation, S: Store<F>>(
-    machine: &mut Machine<F, S>,
+fn reply_put<'m, F: NumberedField + Notation, S: Store<F>>(
+    machine: &'m mut Machine<F, S>,
     row: usize,
     node: usize,
     word: Word<'_>,
 ) -> Reply<F>
     ensures { Replies F.Field.ops F.NumberedField.symbol F.NumberedField.size F.Notation.written S.Store.meaning (put_request row node word.entry) machine.old machine.new result }
 {
-    let none: [F; 0] = [];
-    match F::read_symbol(word.bytes) {
-        Some(symbol) => machine.serve_call(put_call(&none, row, node, symbol)),
-        None => Reply::Declined(Decline::NotSymbol),
-    }
+    let symbol = F::read_symbol(word.bytes).ok_or(Decline::NotSymbol)?;
+    let call: Call<'m, F> = Call::Put(row, node, symbol);
+    machine.serve_call(call)
 }
 
 // What a machine replies to a request that is no make.
-pub fn reply_to<F: NumberedField + Notation, S: Store<F>>(
+pub fn reply_to<'m, F: NumberedField + Notation, S: Store<F>>(
     heap: Global,
-    machine: &mut Machine<F, S>,
+    machine: &'m mut Machine<F, S>,
     request: Request<'_>,
 ) -> Result<Reply<F>, AllocError>
     ensures { IfOk result (λ reply. Answers F.Field.ops F.NumberedField.symbol F.NumberedField.size F.Notation.written S.Store.meaning request.entry machine.old machine.new reply) }
 {
-    let none: [F; 0] = [];
-    match request {
-        Request::Make { .. } => Ok(Reply::Declined(Decline::AlreadyMade)),
-        Request::Set { symbols } => reply_set(heap, machine, symbols),
-        Request::Put { row, node, symbol } => Ok(reply_put(machine, row, node, symbol)),
-        Request::Fetch { row, node } => Ok(machine.serve_call(fetch_call(&none, row, node))),
-        Request::Lose { node } => Ok(machine.serve_call(lose_call(&none, node))),
-        Request::Refresh { node } => Ok(machine.serve_call(refresh_call(&none, node))),
-        Request::Mend { node } => Ok(machine.serve_call(mend_call(&none, node))),
-    }
+    let call: Call<'m, F> = match request {
+        Request::Make { .. } => return Ok(Err(Decline::AlreadyMade)),
+        Request::Set { symbols } => return reply_set(heap, machine, symbols),
+        Request::Put { row, node, symbol } => return Ok(reply_put(machine, row, node, symbol)),
+        Request::Fetch { row, node } => Call::Fetch(row, node),
+        Request::Lose { node } => Call::Lose(node),
+        Request::Refresh { node } => Call::Refresh(node),
+        Request::Mend { node } => Call::Mend(node),
+    };
+    Ok(machine.serve_call(call))
 }
 
 // Adds the answer of a machine to `out`.

@@ -30,6 +30,7 @@ pub struct Engine<C> {
 
 impl<C> Engine<C> {
     // Makes an engine for a store, and blanks the code's nodes.
+    #[tactic(auto, unfolding(crate::specs::Making::make_answer, crate::specs::Making::make_leaves, calls::specs::Calls::fits))]
     pub fn make<F: NumberedField, S: Store<F>>(
         code: C,
         store: &mut S,
@@ -60,6 +61,7 @@ impl<C> Engine<C> {
     }
 
     // Writes the whole array over symbols, which are given row by row.
+    #[tactic(auto, unfolding(calls::specs::Calls::SetDone, calls::specs::Calls::set_decline, calls::specs::Calls::array_set, calls::specs::Calls::data_of, reading::specs::Tables::laid_out, calls::specs::Calls::suited, calls::specs::Calls::fits, calls::specs::Calls::answered, calls::specs::Calls::unless, actions::specs::Allowing::allowed))]
     pub fn set<F: NumberedField, S: Store<F>>(
         &self,
         store: &mut S,
@@ -69,24 +71,21 @@ impl<C> Engine<C> {
         C: Code<F>,
         ensures { SetDone F.Field.ops F.NumberedField.size (C.Code.code self.now.code) (S.Store.meaning store.old) symbols.now result (S.Store.meaning store.new) }
     {
-        match set_decline(&self.code, store, symbols.len()) {
-            Some(reason) => Err(CallFault {
-                call: CallName::Set,
-                reason,
-            }),
-            None => {
-                let data = Data {
-                    symbols,
-                    rows: self.code.rows(),
-                    columns: self.code.columns(),
-                };
-                write_array(store, &self.code, &data);
-                Ok(0)
-            }
-        }
+        set_decline(&self.code, store, symbols.len()).map_err(|reason| CallFault {
+            call: CallName::Set,
+            reason,
+        })?;
+        let data = Data {
+            symbols,
+            rows: self.code.rows(),
+            columns: self.code.columns(),
+        };
+        write_array(store, &self.code, &data);
+        Ok(0)
     }
 
     // Replaces one data symbol: reads and changes exactly the places of its sheet.
+    #[tactic(auto, unfolding(calls::specs::Calls::PutDone, calls::specs::Calls::put_decline, calls::specs::Calls::Sheeted, calls::specs::Calls::suited, calls::specs::Calls::fits, calls::specs::Calls::answered, calls::specs::Calls::unless, actions::specs::Allowing::allowed))]
     pub fn put<F: NumberedField, S: Store<F>>(
         &self,
         store: &mut S,
@@ -98,20 +97,17 @@ impl<C> Engine<C> {
         C: Code<F>,
         ensures { PutDone F.Field.ops F.NumberedField.size (C.Code.code self.now.code) (S.Store.meaning store.old) row column x result (S.Store.meaning store.new) }
     {
-        match put_decline(&self.code, store, row, column) {
-            Some(reason) => Err(CallFault {
-                call: CallName::Put,
-                reason,
-            }),
-            None => {
-                let patch = self.code.put_patch(row, column);
-                check(store, &patch, CallName::Put)?;
-                Ok(apply(store, &patch, x))
-            }
-        }
+        put_decline(&self.code, store, row, column).map_err(|reason| CallFault {
+            call: CallName::Put,
+            reason,
+        })?;
+        let patch = self.code.put_patch(row, column);
+        check(store, &patch, CallName::Put)?;
+        Ok(apply(store, &patch, x))
     }
 
     // The symbol of a data place: read where it is held, and solved by the code where it is blank.
+    #[tactic(auto, unfolding(calls::specs::Calls::FetchDone, calls::specs::Calls::FetchedBy, calls::specs::Calls::fetch_decline, calls::specs::Calls::after_memory, calls::specs::Calls::Sheeted, calls::specs::Calls::suited, calls::specs::Calls::fits, calls::specs::Calls::answered, calls::specs::Calls::unless, actions::specs::Allowing::allowed))]
     pub fn fetch<F: NumberedField, S: Store<F>>(
         &self,
         store: &mut S,
@@ -124,23 +120,21 @@ impl<C> Engine<C> {
         ensures done { FetchDone F.Field.ops F.NumberedField.size (C.Code.code self.now.code) (S.Store.meaning store.old) row column (length memory.old) result (S.Store.meaning store.new) }
         ensures memory { memory.new ≡ after_memory F.Field.ops.zero result memory.old }
     {
-        match fetch_decline(&self.code, store, row, column, memory.len()) {
-            Some(reason) => Err(CallFault {
-                call: CallName::Fetch,
-                reason,
-            }),
-            None => {
-                if is_blank(store, row, column) {
-                    let plan = self.code.fetch_plan(store, row, column);
-                    fetch_by(store, &plan, row, memory)
-                } else {
-                    fetch_held(store, row, column, memory)
-                }
-            }
+        fetch_decline(&self.code, store, row, column, memory.len()).map_err(|reason| CallFault {
+            call: CallName::Fetch,
+            reason,
+        })?;
+        if is_blank(store, row, column) {
+            let plan = self.code.fetch_plan(store, row, column);
+            fetch_by(store, &plan, row, memory)
+        } else {
+            fetch_held(store, row, column, memory)
         }
     }
 
+    // Kept: lose and refresh are two functions, since they make two calls of a store with two meanings.
     // Clears a node.
+    #[tactic(auto, unfolding(calls::specs::Calls::LoseDone, calls::specs::Calls::node_decline, calls::specs::Calls::node_meters, calls::specs::Calls::suited, calls::specs::Calls::fits, calls::specs::Calls::answered, calls::specs::Calls::unless, actions::specs::Allowing::allowed))]
     pub fn lose<F: NumberedField, S: Store<F>>(
         &self,
         store: &mut S,
@@ -150,22 +144,18 @@ impl<C> Engine<C> {
         C: Code<F>,
         ensures { LoseDone F.NumberedField.size (C.Code.code self.now.code) (S.Store.meaning store.old) node result (S.Store.meaning store.new) }
     {
-        match node_decline(&self.code, store, node) {
-            Some(reason) => Err(CallFault {
-                call: CallName::Lose,
-                reason,
-            }),
-            None => match store.clear(node) {
-                Ok(sum) => Ok(sum),
-                Err(_) => Err(CallFault {
-                    call: CallName::Lose,
-                    reason: Reason::SmallStore,
-                }),
-            },
-        }
+        node_decline(&self.code, store, node).map_err(|reason| CallFault {
+            call: CallName::Lose,
+            reason,
+        })?;
+        store.clear(node).map_err(|_| CallFault {
+            call: CallName::Lose,
+            reason: Reason::SmallStore,
+        })
     }
 
     // Refreshes a node.
+    #[tactic(auto, unfolding(calls::specs::Calls::RefreshDone, calls::specs::Calls::node_decline, calls::specs::Calls::node_meters, calls::specs::Calls::suited, calls::specs::Calls::fits, calls::specs::Calls::answered, calls::specs::Calls::unless, actions::specs::Allowing::allowed))]
     pub fn refresh<F: NumberedField, S: Store<F>>(
         &self,
         store: &mut S,
@@ -175,22 +165,18 @@ impl<C> Engine<C> {
         C: Code<F>,
         ensures { RefreshDone F.NumberedField.size (C.Code.code self.now.code) (S.Store.meaning store.old) node result (S.Store.meaning store.new) }
     {
-        match node_decline(&self.code, store, node) {
-            Some(reason) => Err(CallFault {
-                call: CallName::Refresh,
-                reason,
-            }),
-            None => match store.refresh(node) {
-                Ok(cleared) => Ok(cleared),
-                Err(_) => Err(CallFault {
-                    call: CallName::Refresh,
-                    reason: Reason::SmallStore,
-                }),
-            },
-        }
+        node_decline(&self.code, store, node).map_err(|reason| CallFault {
+            call: CallName::Refresh,
+            reason,
+        })?;
+        store.refresh(node).map_err(|_| CallFault {
+            call: CallName::Refresh,
+            reason: Reason::SmallStore,
+        })
     }
 
     // Rewrites a lost node from its read sheet.
+    #[tactic(auto, unfolding(calls::specs::Calls::MendDone, calls::specs::Calls::mend_decline, calls::specs::Calls::after_memory, calls::specs::Calls::Sheeted, calls::specs::Calls::suited, calls::specs::Calls::fits, calls::specs::Calls::answered, calls::specs::Calls::unless, actions::specs::Allowing::allowed))]
     pub fn mend<F: NumberedField, S: Store<F>>(
         &self,
         store: &mut S,
@@ -202,16 +188,12 @@ impl<C> Engine<C> {
         ensures done { MendDone F.Field.ops F.NumberedField.size (C.Code.code self.now.code) (S.Store.meaning store.old) node (length memory.old) result (S.Store.meaning store.new) }
         ensures memory { memory.new ≡ after_memory F.Field.ops.zero result memory.old }
     {
-        match mend_decline(&self.code, store, node, memory.len()) {
-            Some(reason) => Err(CallFault {
-                call: CallName::Mend,
-                reason,
-            }),
-            None => {
-                let plan = self.code.mend_plan(store, node);
-                mend_by(store, &plan, self.code.rows(), node, memory)
-            }
-        }
+        mend_decline(&self.code, store, node, memory.len()).map_err(|reason| CallFault {
+            call: CallName::Mend,
+            reason,
+        })?;
+        let plan = self.code.mend_plan(store, node);
+        mend_by(store, &plan, self.code.rows(), node, memory)
     }
 
     // Serves one call, and so extends every history.

@@ -4,8 +4,8 @@ ghost use Rattle.engine.specs.Making.{make_number};
 // Why an engine is not made.
 #[derive(Clone, Copy, PartialEq, Eq)]
 pub enum MakeFault {
-    SmallField,
-    SmallStore,
+    SmallField = 15,
+    SmallStore = 16,
 }
 
 impl MakeFault {
@@ -13,9 +13,6 @@ impl MakeFault {
     pub fn number(self) -> u8
         ensures { result ≡ make_number self }
     {
-        match self {
-            MakeFault::SmallField => 15,
-            MakeFault::SmallStore => 16,
-        }
+        self as u8
     }
 }

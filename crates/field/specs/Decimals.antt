@@ -1,34 +1,11 @@
 -- The decimal symbols keep the laws of a field, and their numbers are a numbering. Assumes nothing.
-use Rattle.std.specs.Prelude.{◌≡◌, ℕ, zero, suc, ◌<◌, ◌≤◌, Bool, true, false, T, Some, None, Option, ◌==◌, ◌≢◌, nat_eq, refl}
-use Rattle.std.proofs.Common.{sym, ap, subst, ◌∙◌, ⊎_elim, arith, eqb→eq, lit<, lit≤}
-use Rattle.std.proofs.lemmas.Bool.{cases_eq}
+use Rattle.std.specs.Prelude.{◌≡◌, ℕ, zero, suc, ◌<◌, ◌≤◌, Bool, true, false, Some, None, Option, ◌==◌, ◌≢◌, nat_eq, refl}
+use Rattle.std.proofs.Common.{sym, ap, subst, ◌∙◌, arith, lit<, lit≤}
+use Rattle.std.proofs.lemmas.Bool.{false≢true, eqb-true, agree_below, agree_below_at}
 use Rattle.field.specs.Laws.{FieldLaws, Numbering}
 use Rattle.field.specs.declared.decimal.Decimal.{Decimal}
 use Rattle.field.specs.declared.decimal.Decimal.TheVariants.{Zero, One, Two, Three, Four, Five, Six, Seven, Eight, Nine, Ten}
 use Rattle.field.specs.Decimal.{number_of, symbol_of, modulo, decimal}
-
--- a test at each number below n
-
-abbrev both : Bool → Bool → Bool
-both true b = b
-both false b = false
-
-left : (a b : Bool) → T (both a b) → T a
-left true b t = tt
-left false b t = t
-
-right : (a b : Bool) → T (both a b) → T b
-right true b t = t
-right false b t = absurd t
-
-abbrev each : (ℕ → Bool) → ℕ → Bool
-each f zero = true
-each f (suc n) = both (each f n) (f n)
-
-at : (f : ℕ → Bool) (n : ℕ) → T (each f n) → (k : ℕ) → k < n → T (f k)
-at f zero t k h = absurd (omega arith)
-at f (suc n) t k h =
-    ⊎_elim (λ e. subst (λ m. T (f m)) (sym e) (right (each f n) (f n) t)) (λ d. at f n (left (each f n) (f n) t) k (omega arith)) (cases_eq k n)
 
 pub number_below : (u : Decimal) → number_of u < 11
 number_below Zero = lit< tt
@@ -72,24 +49,25 @@ modulo_number Ten = refl
 -- a test at each symbol, and so an equation between symbols that holds at each of the eleven
 
 abbrev every : (Decimal → Bool) → Bool
-every f = each (λ n. f (modulo n)) 11
+every f = agree_below (λ n. f (modulo n)) (λ _. true) 11
 
-at_symbol : (f : Decimal → Bool) → T (every f) → (u : Decimal) → T (f u)
-at_symbol f t u = subst (λ e. T (f e)) (modulo_number u) (at (λ n. f (modulo n)) 11 t (number_of u) (number_below u))
+at_symbol : (f : Decimal → Bool) → every f ≡ true → (u : Decimal) → f u ≡ true
+at_symbol f t u =
+    subst (λ e. f e ≡ true) (modulo_number u) (agree_below_at (λ n. f (modulo n)) (λ _. true) 11 (number_of u) t (number_below u))
 
 abbrev same : Decimal → Decimal → Bool
 same u v = number_of u == number_of v
 
-same_symbol : (u v : Decimal) → T (same u v) → u ≡ v
-same_symbol u v t = sym (modulo_number u) ∙ ap modulo (eqb→eq (number_of u) (number_of v) t) ∙ modulo_number v
+same_symbol : (u v : Decimal) → same u v ≡ true → u ≡ v
+same_symbol u v t = sym (modulo_number u) ∙ ap modulo (eqb-true (number_of u) (number_of v) t) ∙ modulo_number v
 
-law₁ : (f g : Decimal → Decimal) → T (every (λ u. same (f u) (g u))) → (u : Decimal) → f u ≡ g u
+law₁ : (f g : Decimal → Decimal) → every (λ u. same (f u) (g u)) ≡ true → (u : Decimal) → f u ≡ g u
 law₁ f g t u = same_symbol (f u) (g u) (at_symbol (λ u. same (f u) (g u)) t u)
 
-law₂ : (f g : Decimal → Decimal → Decimal) → T (every (λ u. every (λ v. same (f u v) (g u v)))) → (u v : Decimal) → f u v ≡ g u v
+law₂ : (f g : Decimal → Decimal → Decimal) → every (λ u. every (λ v. same (f u v) (g u v))) ≡ true → (u v : Decimal) → f u v ≡ g u v
 law₂ f g t u = law₁ (f u) (g u) (at_symbol (λ u. every (λ v. same (f u v) (g u v))) t u)
 
-law₃ : (f g : Decimal → Decimal → Decimal → Decimal) → T (every (λ u. every (λ v. every (λ w. same (f u v w) (g u v w))))) → (u v w : Decimal) → f u v w ≡ g u v w
+law₃ : (f g : Decimal → Decimal → Decimal → Decimal) → every (λ u. every (λ v. every (λ w. same (f u v w) (g u v w)))) ≡ true → (u v w : Decimal) → f u v w ≡ g u v w
 law₃ f g t u = law₂ (f u) (g u) (at_symbol (λ u. every (λ v. every (λ w. same (f u v w) (g u v w)))) t u)
 
 module _ where
@@ -113,32 +91,33 @@ module _ where
 
   pub decimal_laws : FieldLaws decimal
   decimal_laws = record {
-    sum_comm = law₂ (λ u v. u ⊕ v) (λ u v. v ⊕ u) tt;
-    sum_assoc = law₃ (λ u v w. (u ⊕ v) ⊕ w) (λ u v w. u ⊕ (v ⊕ w)) tt;
-    sum_zero = law₁ (λ u. u ⊕ 𝟘) (λ u. u) tt;
-    sub_add = law₂ (λ u v. (u ⊖ v) ⊕ v) (λ u v. u) tt;
-    product_comm = law₂ (λ u v. u ⊗ v) (λ u v. v ⊗ u) tt;
-    product_assoc = law₃ (λ u v w. (u ⊗ v) ⊗ w) (λ u v w. u ⊗ (v ⊗ w)) tt;
-    product_one = law₁ (λ u. u ⊗ 𝟙) (λ u. u) tt;
-    distributes = law₃ (λ u v w. u ⊗ (v ⊕ w)) (λ u v w. u ⊗ v ⊕ u ⊗ w) tt;
+    sum_comm = law₂ (λ u v. u ⊕ v) (λ u v. v ⊕ u) refl;
+    sum_assoc = law₃ (λ u v w. (u ⊕ v) ⊕ w) (λ u v w. u ⊕ (v ⊕ w)) refl;
+    sum_zero = law₁ (λ u. u ⊕ 𝟘) (λ u. u) refl;
+    sub_add = law₂ (λ u v. (u ⊖ v) ⊕ v) (λ u v. u) refl;
+    product_comm = law₂ (λ u v. u ⊗ v) (λ u v. v ⊗ u) refl;
+    product_assoc = law₃ (λ u v w. (u ⊗ v) ⊗ w) (λ u v w. u ⊗ (v ⊗ w)) refl;
+    product_one = law₁ (λ u. u ⊗ 𝟙) (λ u. u) refl;
+    distributes = law₃ (λ u v w. u ⊗ (v ⊕ w)) (λ u v w. u ⊗ v ⊕ u ⊗ w) refl;
     inverse_of = inverted;
     inverse_zero = refl;
     differ = λ e. let z : ◌≡◌ {A = ℕ} 0 1 = ap number_of e in omega arith;
   }
 
 number_modulo : (n : ℕ) → n < 11 → number_of (modulo n) ≡ n
-number_modulo n h = eqb→eq (number_of (modulo n)) n (at (λ n. nat_eq (number_of (modulo n)) n) 11 tt n h)
+number_modulo n h = eqb-true (number_of (modulo n)) n (agree_below_at (λ n. nat_eq (number_of (modulo n)) n) (λ _. true) 11 n refl h)
 
 abbrev found : Option Decimal → Decimal → Bool
 found (Some u) v = same u v
 found None v = false
 
-found_some : (o : Option Decimal) (v : Decimal) → T (found o v) → o ≡ Some v
+found_some : (o : Option Decimal) (v : Decimal) → found o v ≡ true → o ≡ Some v
 found_some (Some u) v t = ap Some (same_symbol u v t)
-found_some None v t = absurd t
+found_some None v t = absurd (false≢true t)
 
 symbol_below : (n : ℕ) → n < 11 → symbol_of n ≡ Some (modulo n)
-symbol_below n h = found_some (symbol_of n) (modulo n) (at (λ n. found (symbol_of n) (modulo n)) 11 tt n h)
+symbol_below n h =
+    found_some (symbol_of n) (modulo n) (agree_below_at (λ n. found (symbol_of n) (modulo n)) (λ _. true) 11 n refl h)
 
 no_symbol : (n : ℕ) → 11 ≤ n → symbol_of n ≡ None
 no_symbol (suc (suc (suc (suc (suc (suc (suc (suc (suc (suc (suc n))))))))))) h = refl

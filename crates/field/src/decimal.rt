@@ -1,9 +1,11 @@
 // Decimal symbols: the numbers 0 to 10, counted modulo 11.
-ghost use Rattle.std.specs.Prelude.{◌≡◌, ◌%◌, ◌<◌};
+ghost use Rattle.std.specs.Prelude.{◌≡◌, Some};
 ghost use Rattle.field.specs.Decimal.{number_of, symbol_of, modulo, decimal as decimal_operations};
 ghost use Rattle.field.specs.Decimals.{decimal_laws, decimal_numbering};
+ghost use Rattle.field.specs.Text.{text_of};
 
 use super::{Field, NumberedField};
+use std::fmt;
 
 // A decimal symbol, named by its number.
 #[derive(Clone, Copy, PartialEq, Eq, Debug)]
@@ -21,55 +23,26 @@ pub enum Decimal {
     Ten,
 }
 
-// How many decimal symbols there are.
-const SIZE: usize = 11;
-
-fn to_number(u: Decimal) -> usize
-    ensures number { result ≡ number_of u }
-    ensures below { result < 11 }
-{
-    match u {
-        Decimal::Zero => 0,
-        Decimal::One => 1,
-        Decimal::Two => 2,
-        Decimal::Three => 3,
-        Decimal::Four => 4,
-        Decimal::Five => 5,
-        Decimal::Six => 6,
-        Decimal::Seven => 7,
-        Decimal::Eight => 8,
-        Decimal::Nine => 9,
-        Decimal::Ten => 10,
-    }
-}
-
-fn to_symbol(n: usize) -> Option<Decimal>
-    ensures { result ≡ symbol_of n }
-{
-    match n {
-        0 => Some(Decimal::Zero),
-        1 => Some(Decimal::One),
-        2 => Some(Decimal::Two),
-        3 => Some(Decimal::Three),
-        4 => Some(Decimal::Four),
-        5 => Some(Decimal::Five),
-        6 => Some(Decimal::Six),
-        7 => Some(Decimal::Seven),
-        8 => Some(Decimal::Eight),
-        9 => Some(Decimal::Nine),
-        10 => Some(Decimal::Ten),
-        _ => None,
-    }
-}
+// The symbols in the order of their numbers.
+const SYMBOLS: [Decimal; 11] = [
+    Decimal::Zero,
+    Decimal::One,
+    Decimal::Two,
+    Decimal::Three,
+    Decimal::Four,
+    Decimal::Five,
+    Decimal::Six,
+    Decimal::Seven,
+    Decimal::Eight,
+    Decimal::Nine,
+    Decimal::Ten,
+];
 
 // The symbol that a number leaves modulo 11.
 fn reduced(n: usize) -> Decimal
     ensures { result ≡ modulo n }
 {
-    match to_symbol(n % SIZE) {
-        Some(u) => u,
-        None => Decimal::Zero,
-    }
+    Decimal::symbol(n % SYMBOLS.len()).unwrap_or(Decimal::Zero)
 }
 
 impl Field for Decimal {
@@ -86,15 +59,15 @@ impl Field for Decimal {
     }
 
     fn sum(self, other: Decimal) -> Decimal {
-        reduced(to_number(self) + to_number(other))
+        reduced(self.number() + other.number())
     }
 
     fn difference(self, other: Decimal) -> Decimal {
-        reduced(to_number(self) + 11 - to_number(other))
+        reduced(self.number() + 11 - other.number())
     }
 
     fn product(self, other: Decimal) -> Decimal {
-        reduced(to_number(self) * to_number(other))
+        reduced(self.number() * other.number())
     }
 
     fn inverse(self) -> Decimal {
@@ -124,14 +97,26 @@ impl NumberedField for Decimal {
     ghost numbering = { decimal_numbering };
 
     fn size() -> usize {
-        SIZE
+        SYMBOLS.len()
     }
 
     fn symbol(n: usize) -> Option<Decimal> {
-        to_symbol(n)
+        SYMBOLS.get(n).copied()
     }
 
     fn number(self) -> usize {
-        to_number(self)
+        self as usize
+    }
+}
+
+// A symbol is written as its digit, and ten as X.
+impl fmt::Display for Decimal {
+    ghost output = { λ u. Some (text_of u) };
+
+    fn fmt<W: fmt::Write>(&self, f: &mut fmt::Formatter<W>) -> fmt::Result {
+        match self {
+            Decimal::Ten => write!(f, "X"),
+            _ => write!(f, "{}", self.number()),
+        }
     }
 }

@@ -7,11 +7,11 @@ use Rattle.image.specs.Bytes.{imaged}
 
 -- the whole of the memory that was lent
 abbrev pub whole : {F : Type 0} → CardImage F → List ℕ
-whole c = c.lent.bytes.now
+whole c = c.bytes.now
 
 -- which memory it is
 abbrev pub lender : {F : Type 0} → CardImage F → GName
-lender c = c.lent.bytes.ghost_name
+lender c = c.bytes.ghost_name
 
 -- how many bytes of it are the store's
 abbrev pub used : {F : Type 0} → CardImage F → ℕ

@@ -1,53 +1,27 @@
 // The card image: a store in bytes that the caller lends, four a place.
 #![tactic(auto)]
 
-ghost use Rattle.std.specs.Prelude.{◌≡◌, ◌+◌, ◌*◌, ◌≤◌, true, length, is_ok, is_err, Some};
+ghost use Rattle.std.specs.Prelude.{◌≡◌, ◌+◌, ◌*◌, ◌≤◌, true, length, is_ok, is_err};
 ghost use Rattle.store.specs.Meaning.{blank as fresh, probed, placed, summed, read as reads, written, cleared, refreshed};
 ghost use Rattle.store.specs.Fit.{Checked};
 ghost use Rattle.store.specs.Beyond.{Beyond};
-ghost use Rattle.image.specs.Bytes.{Zeros, holds, imaged};
+ghost use Rattle.image.specs.Bytes.{Zeros, imaged};
 ghost use Rattle.image.specs.Images.{lender, means, used, whole};
 ghost use Rattle.image.specs.Soundness.{image_sound};
 
 use field::NumberedField;
 use std::marker::PhantomData;
-use store::{Cause, Shape, Store, StoreFault, Unfit, judged};
+use store::{Shape, Store, StoreFault, Unfit};
 
+mod bytes;
 mod image;
-pub mod lent;
-pub mod record;
+mod record;
 
+pub use bytes::Bytes;
 pub use image::CardImage;
-use lent::Lent;
-use record::Record;
 
 // The reads that a place stands.
 pub const LIFE: u16 = 250;
-
-// What a record holds: nothing, unless its mark is 1 and its number has a symbol.
-pub fn opened<F: NumberedField>(r: Record) -> Option<F>
-    ensures { result ≡ holds F.NumberedField.symbol r }
-{
-    if r.mark == 1 {
-        F::symbol(usize::from(r.high) * 256 + usize::from(r.low))
-    } else {
-        None
-    }
-}
-
-// The record that holds a symbol, with a meter.
-pub fn sealed<F: NumberedField>(x: F, meter: u8) -> Record
-    ensures holds { holds F.NumberedField.symbol result ≡ Some x }
-    ensures meter { result.meter ≡ meter }
-{
-    let n = x.number();
-    Record {
-        mark: 1,
-        high: (n / 256) as u8,
-        low: (n % 256) as u8,
-        meter,
-    }
-}
 
 impl<'m, F: NumberedField> CardImage<'m, F> {
     // Whether the memory holds a store of these rows and nodes.
@@ -65,13 +39,8 @@ impl<'m, F: NumberedField> CardImage<'m, F> {
         ensures beyond { Beyond (4 * (shape.rows * shape.nodes)) memory.old (whole result) }
         ensures lender { lender result ≡ memory.entry.ghost_name }
     {
-        let mut lent = Lent { bytes: memory };
-        lent.clear(0, shape.rows * shape.nodes);
-        CardImage {
-            lent,
-            shape,
-            kind: PhantomData,
-        }
+        medium::make::<F, Bytes>(memory, shape);
+        CardImage::open(memory, shape)
     }
 
     // The store that lies in the memory already, whatever its bytes are.
@@ -82,17 +51,16 @@ impl<'m, F: NumberedField> CardImage<'m, F> {
         ensures lender { lender result ≡ memory.entry.ghost_name }
     {
         CardImage {
-            lent: Lent { bytes: memory },
+            bytes: memory,
             shape,
             kind: PhantomData,
         }
     }
 }
 
+// Kept: these lines stand beside the bank's, since `clear` of an image promises zeros too.
 impl<'m, F: NumberedField> Store<F> for CardImage<'m, F> {
     ghost meaning = { means F.NumberedField.symbol };
-
-    ghost sound = { image_sound F.NumberedField.symbol };
 
     fn rows(&self) -> usize {
         self.shape.rows
@@ -107,27 +75,11 @@ impl<'m, F: NumberedField> Store<F> for CardImage<'m, F> {
     }
 
     fn probe(&self, row: usize, node: usize) -> Result<F, StoreFault> {
-        if row >= self.shape.rows || node >= self.shape.nodes {
-            return Err(StoreFault {
-                row,
-                node,
-                cause: Cause::OffStore,
-            });
-        }
-        let r = self.lent.get(self.shape.rows * node + row);
-        judged(opened(r), u16::from(r.meter).min(LIFE), LIFE, row, node)
+        medium::probe::<F, Bytes>(self.bytes, self.shape, row, node)
     }
 
     fn meter(&self, row: usize, node: usize) -> Result<u16, StoreFault> {
-        if row >= self.shape.rows || node >= self.shape.nodes {
-            return Err(StoreFault {
-                row,
-                node,
-                cause: Cause::OffStore,
-            });
-        }
-        let r = self.lent.get(self.shape.rows * node + row);
-        Ok(u16::from(r.meter).min(LIFE))
+        medium::meter::<F, Bytes>(self.bytes, self.shape, row, node)
     }
 
     fn read(&mut self, row: usize, node: usize) -> Result<F, StoreFault>
@@ -137,19 +89,8 @@ impl<'m, F: NumberedField> Store<F> for CardImage<'m, F> {
         ensures beyond { Beyond (used self.old) (whole self.old) (whole self.new) }
         ensures lender { lender self.new ≡ lender self.old }
     {
-        let x = self.probe(row, node)?;
-        let i = self.shape.rows * node + row;
-        let r = self.lent.get(i);
-        self.lent.put(
-            i,
-            Record {
-                mark: r.mark,
-                high: r.high,
-                low: r.low,
-                meter: r.meter + 1,
-            },
-        );
-        Ok(x)
+        let bytes = &mut *self.bytes;
+        medium::read::<F, Bytes>(bytes, self.shape, row, node)
     }
 
     fn write(&mut self, row: usize, node: usize, x: F) -> Result<(), StoreFault>
@@ -159,17 +100,8 @@ impl<'m, F: NumberedField> Store<F> for CardImage<'m, F> {
         ensures beyond { Beyond (used self.old) (whole self.old) (whole self.new) }
         ensures lender { lender self.new ≡ lender self.old }
     {
-        if row >= self.shape.rows || node >= self.shape.nodes {
-            return Err(StoreFault {
-                row,
-                node,
-                cause: Cause::OffStore,
-            });
-        }
-        let i = self.shape.rows * node + row;
-        let r = self.lent.get(i);
-        self.lent.put(i, sealed(x, r.meter));
-        Ok(())
+        let bytes = &mut *self.bytes;
+        medium::write::<F, Bytes>(bytes, self.shape, row, node, x)
     }
 
     fn clear(&mut self, node: usize) -> Result<u32, StoreFault>
@@ -180,17 +112,8 @@ impl<'m, F: NumberedField> Store<F> for CardImage<'m, F> {
         ensures beyond { Beyond (used self.old) (whole self.old) (whole self.new) }
         ensures lender { lender self.new ≡ lender self.old }
     {
-        if node >= self.shape.nodes {
-            return Err(StoreFault {
-                row: 0,
-                node,
-                cause: Cause::OffStore,
-            });
-        }
-        let start = self.shape.rows * node;
-        let sum = self.lent.worn(start, self.shape.rows);
-        self.lent.clear(start, self.shape.rows);
-        Ok(sum)
+        let bytes = &mut *self.bytes;
+        medium::clear::<F, Bytes>(bytes, self.shape, node)
     }
 
     fn refresh(&mut self, node: usize) -> Result<u32, StoreFault>
@@ -200,16 +123,9 @@ impl<'m, F: NumberedField> Store<F> for CardImage<'m, F> {
         ensures beyond { Beyond (used self.old) (whole self.old) (whole self.new) }
         ensures lender { lender self.new ≡ lender self.old }
     {
-        if node >= self.shape.nodes {
-            return Err(StoreFault {
-                row: 0,
-                node,
-                cause: Cause::OffStore,
-            });
-        }
-        let start = self.shape.rows * node;
-        let sum = self.lent.worn(start, self.shape.rows);
-        self.lent.refresh(start, self.shape.rows);
-        Ok(sum)
+        let bytes = &mut *self.bytes;
+        medium::refresh::<F, Bytes>(bytes, self.shape, node)
     }
+
+    ghost sound = { image_sound F.NumberedField.symbol };
 }

@@ -60,25 +60,16 @@ fn nodes<F: NumberedField, S: Store<F>>(rt: &HostRuntime, s: &mut S) -> io::Resu
     Ok(())
 }
 
-// The image of decimal symbols that lies in the memory.
-fn decimal(rt: &HostRuntime, memory: &mut [u8], rows: usize, columns: usize) -> io::Result<()> {
-    match CardImage::<Decimal>::check(memory, rows, columns) {
+// The image that lies in the memory.
+fn image<F: NumberedField>(
+    rt: &HostRuntime,
+    memory: &mut [u8],
+    rows: usize,
+    columns: usize,
+) -> io::Result<()> {
+    match CardImage::<F>::check(memory, rows, columns) {
         Ok(shape) => {
-            let mut image = CardImage::<Decimal>::open(memory, shape);
-            nodes(rt, &mut image)
-        }
-        Err(f) => {
-            let number = f.number();
-            println!(rt; "no {number}")
-        }
-    }
-}
-
-// The image of byte symbols that lies in the memory.
-fn bytes(rt: &HostRuntime, memory: &mut [u8], rows: usize, columns: usize) -> io::Result<()> {
-    match CardImage::<Byte>::check(memory, rows, columns) {
-        Ok(shape) => {
-            let mut image = CardImage::<Byte>::open(memory, shape);
+            let mut image = CardImage::<F>::open(memory, shape);
             nodes(rt, &mut image)
         }
         Err(f) => {
@@ -91,16 +82,13 @@ fn bytes(rt: &HostRuntime, memory: &mut [u8], rows: usize, columns: usize) -> io
 fn main(rt: HostRuntime) -> io::Result<()> {
     let mut input = Vec::new(rt.alloc());
     rt.stdin().read_to_end(&mut input)?;
-    let given = input.as_mut_slice();
-    if given.len() < 3 {
+    let [letter, rows, columns, memory @ ..] = input.as_mut_slice() else {
         return println!(rt; "no image");
-    }
-    let letter = given[0];
-    let rows = usize::from(given[1]);
-    let columns = usize::from(given[2]);
-    let memory = &mut given[3..];
-    match letter {
-        b'd' => decimal(&rt, memory, rows, columns),
-        _ => bytes(&rt, memory, rows, columns),
+    };
+    let rows = usize::from(*rows);
+    let columns = usize::from(*columns);
+    match *letter {
+        b'd' => image::<Decimal>(&rt, memory, rows, columns),
+        _ => image::<Byte>(&rt, memory, rows, columns),
     }
 }

@@ -14,7 +14,3 @@ module _ {X Z : Type 0} (v : Vec X Z) (slice after : List X) (value : slice ≡ 
   -- what holds of the slices as they are seen by f holds of the vectors
   pub seen : {M : Type 0} (f : List X → M) (g : M → M) → f after ≡ g (f slice) → f (vec_items (with_items v after)) ≡ g (f (vec_items v))
   seen f g h = ap f back ∙ h ∙ ap (λ l. g (f l)) value
-
--- what is answered of a slice of the items is answered of the items
-pub told : {A X M : Type 0} (slice items : List X) → slice ≡ items → (f : List X → M) (g : M → A) (r : A) → r ≡ g (f slice) → r ≡ g (f items)
-told slice items value f g r h = h ∙ ap (λ l. g (f l)) value

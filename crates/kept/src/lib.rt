@@ -6,17 +6,22 @@ ghost use Rattle.store.specs.Meaning.{blank as fresh};
 ghost use Rattle.kept.specs.Stores.{bank_means, image_means};
 ghost use Rattle.kept.specs.Soundness.{kept_bank_sound, kept_image_sound};
 
-use bank::Cell;
+use bank::{Cell, Cells};
 use field::NumberedField;
+use image::Bytes;
 use std::alloc::{AllocError, Global};
 use std::marker::PhantomData;
-use store::{Store, StoreFault};
+use store::{Shape, Store, StoreFault};
 
-mod bytes;
-mod cells;
 mod holding;
 
 pub use holding::{KeptBank, KeptImage};
+
+// The rows and nodes of each of these stores.
+const SHAPE: Shape = Shape {
+    rows: 32,
+    nodes: 93,
+};
 
 impl<F: NumberedField> KeptBank<F> {
     // A blank bank, unless memory is short.
@@ -49,86 +54,87 @@ impl<F: NumberedField> KeptImage<F> {
     }
 }
 
+// Kept: this impl and the next alike, since the two stores are two structs; each call is one line, and the work is done once in `medium`.
 impl<F: NumberedField> Store<F> for KeptBank<F> {
     ghost meaning = { bank_means };
 
-    ghost sound = { kept_bank_sound };
-
     fn rows(&self) -> usize {
-        32
+        SHAPE.rows
     }
 
     fn nodes(&self) -> usize {
-        93
+        SHAPE.nodes
     }
 
     fn life(&self) -> u16 {
-        1000
+        bank::LIFE
     }
 
     fn probe(&self, row: usize, node: usize) -> Result<F, StoreFault> {
-        cells::probe_in(self.cells.as_slice(), row, node)
+        medium::probe::<F, Cells>(self.cells.as_slice(), SHAPE, row, node)
     }
 
     fn meter(&self, row: usize, node: usize) -> Result<u16, StoreFault> {
-        cells::meter_in(self.cells.as_slice(), row, node)
+        medium::meter::<F, Cells>(self.cells.as_slice(), SHAPE, row, node)
     }
 
     fn read(&mut self, row: usize, node: usize) -> Result<F, StoreFault> {
-        cells::read_in(&mut self.cells, row, node)
+        medium::read::<F, Cells>(self.cells.as_mut_slice(), SHAPE, row, node)
     }
 
     fn write(&mut self, row: usize, node: usize, x: F) -> Result<(), StoreFault> {
-        cells::write_in(&mut self.cells, row, node, x)
+        medium::write::<F, Cells>(self.cells.as_mut_slice(), SHAPE, row, node, x)
     }
 
     fn clear(&mut self, node: usize) -> Result<u32, StoreFault> {
-        cells::clear_in(&mut self.cells, node)
+        medium::clear::<F, Cells>(self.cells.as_mut_slice(), SHAPE, node)
     }
 
     fn refresh(&mut self, node: usize) -> Result<u32, StoreFault> {
-        cells::refresh_in(&mut self.cells, node)
+        medium::refresh::<F, Cells>(self.cells.as_mut_slice(), SHAPE, node)
     }
+
+    ghost sound = { kept_bank_sound };
 }
 
 impl<F: NumberedField> Store<F> for KeptImage<F> {
     ghost meaning = { image_means F.NumberedField.symbol };
 
-    ghost sound = { kept_image_sound F.NumberedField.symbol };
-
     fn rows(&self) -> usize {
-        32
+        SHAPE.rows
     }
 
     fn nodes(&self) -> usize {
-        93
+        SHAPE.nodes
     }
 
     fn life(&self) -> u16 {
-        250
+        image::LIFE
     }
 
     fn probe(&self, row: usize, node: usize) -> Result<F, StoreFault> {
-        bytes::probe_in(self.bytes.as_slice(), row, node)
+        medium::probe::<F, Bytes>(self.bytes.as_slice(), SHAPE, row, node)
     }
 
     fn meter(&self, row: usize, node: usize) -> Result<u16, StoreFault> {
-        bytes::meter_in::<F>(self.bytes.as_slice(), row, node)
+        medium::meter::<F, Bytes>(self.bytes.as_slice(), SHAPE, row, node)
     }
 
     fn read(&mut self, row: usize, node: usize) -> Result<F, StoreFault> {
-        bytes::read_in(&mut self.bytes, row, node)
+        medium::read::<F, Bytes>(self.bytes.as_mut_slice(), SHAPE, row, node)
     }
 
     fn write(&mut self, row: usize, node: usize, x: F) -> Result<(), StoreFault> {
-        bytes::write_in(&mut self.bytes, row, node, x)
+        medium::write::<F, Bytes>(self.bytes.as_mut_slice(), SHAPE, row, node, x)
     }
 
     fn clear(&mut self, node: usize) -> Result<u32, StoreFault> {
-        bytes::clear_in::<F>(&mut self.bytes, node)
+        medium::clear::<F, Bytes>(self.bytes.as_mut_slice(), SHAPE, node)
     }
 
     fn refresh(&mut self, node: usize) -> Result<u32, StoreFault> {
-        bytes::refresh_in::<F>(&mut self.bytes, node)
+        medium::refresh::<F, Bytes>(self.bytes.as_mut_slice(), SHAPE, node)
     }
+
+    ghost sound = { kept_image_sound F.NumberedField.symbol };
 }

@@ -1,6 +1,7 @@
 // A session line, as the words that it is made of.
 use text::words::{Word, Words};
 
+// Kept: names of their own beside those of the calls, since make is a first word and no call of an engine.
 // The first words of lines.
 #[derive(Clone, Copy)]
 pub enum FirstWord {
@@ -13,6 +14,7 @@ pub enum FirstWord {
     Mend,
 }
 
+// Kept: words and what they ask for are two types, since a line can have its words and still ask for nothing.
 // The calls, each with the words that follow its name.
 #[derive(Clone, Copy)]
 pub enum SessionLine<'a> {

@@ -1,113 +1,131 @@
 // How a node is mended, and how it is made.
-ghost use Rattle.std.specs.Prelude.{◌≡◌, ℕ, ◌+◌, ◌<◌, ◌≤◌};
+ghost use Rattle.std.specs.Prelude.{◌≡◌, ⊤, ◌+◌, ◌<◌, ◌≤◌};
 ghost use Rattle.row.specs.Numbered.{numbered as numbered_of};
 ghost use Rattle.array.specs.Layout.{nodes};
 ghost use Rattle.array.specs.Symbols.{array};
 ghost use Rattle.array.specs.Recovered.{restored};
 ghost use Rattle.array.specs.Sheet.{mend_entries, slot as slot_of};
-ghost use Rattle.mending.specs.Weights.{MakingWeights, MendingWeights};
+ghost use Rattle.mending.specs.Weights.{mend_gap};
 
 use crate::node_sheet::NodeSheet;
-use crate::symbols::{data_symbol, parity_symbol};
-use crate::weighing::{making_weights, mending_weights};
+use crate::weighing::NodeWeights;
 use array::Parameters;
 use code::{ReadPlan, Solver};
 use field::{Field, NumberedField};
 use sheet::{Entry, Listing, Table};
+use std::alloc::AllocError;
 
 // How a node is mended: its listing, and the weights for its rows.
-#[derive(Clone, Copy)]
-pub struct Mend {
-    pub(crate) sheet: NodeSheet,
-    pub(crate) weights: [usize; 32],
+pub struct Mend<F: NumberedField> {
+    weights: NodeWeights<F>,
+    ghost gap: { weights.gap ≡ mend_gap weights.sheet.parameters weights.sheet.node },
 }
 
-impl Mend {
-    pub fn new<F: NumberedField>(parameters: Parameters, node: usize) -> Mend
+// Kept: a copy by hand, since no derive stands over the ghost fields of a generic struct.
+impl<F: NumberedField> Clone for Mend<F> {
+    ghost is_clone = { λ mend clone. clone ≡ mend };
+
+    ghost is_infallible = { λ _. ⊤ };
+
+    fn clone(&self) -> Result<Mend<F>, AllocError> {
+        Ok(*self)
+    }
+}
+
+impl<F: NumberedField> Copy for Mend<F> {}
+
+impl<F: NumberedField> Mend<F> {
+    // Kept: what the node and the field must be is asked by each maker, since parameters name neither.
+    pub fn new(parameters: Parameters, node: usize) -> Mend<F>
         requires room { parameters.k + parameters.a ≤ F.size }
         requires within { node < nodes parameters }
-        ensures node { (result.sheet.parameters ≡ parameters) × (result.sheet.node ≡ node) }
-        ensures weights { MendingWeights F.Field.ops (numbered_of F.Field.ops.zero F.symbol) result.sheet.parameters result.sheet.node result.weights }
+        ensures { (result.weights.sheet.parameters ≡ parameters) × (result.weights.sheet.node ≡ node) }
     {
-        let weights = mending_weights::<F>(parameters, node);
         Mend {
-            sheet: NodeSheet::new(parameters, node),
-            weights,
+            weights: NodeWeights::new(NodeSheet::new(parameters, node), node.min(parameters.k)),
         }
     }
 }
 
-impl Listing for Mend {
-    ghost entries = { λ m. mend_entries m.sheet.parameters m.sheet.node };
+impl<F: NumberedField> Listing for Mend<F> {
+    ghost entries = { λ m. mend_entries m.weights.sheet.parameters m.weights.sheet.node };
 
     fn len(&self) -> usize {
-        let sheet = self.sheet;
-        sheet.len()
+        self.weights.sheet.len()
     }
 
     fn at(&self, i: usize) -> Entry {
-        let sheet = self.sheet;
-        sheet.at(i)
+        self.weights.sheet.at(i)
     }
 }
 
-impl<F: NumberedField> Solver<F> for Mend {
-    ghost ready = { λ m row. (row < m.sheet.parameters.k) × (m.sheet.parameters.k + m.sheet.parameters.a ≤ F.size) × MendingWeights F.Field.ops (numbered_of F.Field.ops.zero F.symbol) m.sheet.parameters m.sheet.node m.weights };
+#[tactic(auto, unfolding(array::specs::Recovered::restored))]
+impl<F: NumberedField> Solver<F> for Mend<F> {
+    ghost ready = { λ m row. row < m.weights.sheet.parameters.k };
 
-    ghost solved = { λ m v row. restored F.Field.ops (numbered_of F.Field.ops.zero F.symbol) m.sheet.parameters v m.sheet.node row };
+    ghost solved = { λ m v row. restored F.Field.ops (numbered_of F.Field.ops.zero F.symbol) m.weights.sheet.parameters v m.weights.sheet.node row };
 
     fn solve<T: Table<F>>(&self, table: &T, row: usize) -> F {
-        let sheet = self.sheet;
+        let sheet = self.weights.sheet;
         if sheet.node < sheet.parameters.k {
-            data_symbol(sheet.parameters, &self.weights, table, sheet.node, row)
+            self.weights.data_symbol(table, row)
         } else {
-            parity_symbol(sheet.parameters, &self.weights, table, sheet.node, row)
+            self.weights.parity_symbol(table, row)
         }
     }
 }
 
-impl<F: NumberedField> ReadPlan<F> for Mend {
-    ghost slot = { λ m row node. slot_of m.sheet.parameters m.sheet.node row node };
+impl<F: NumberedField> ReadPlan<F> for Mend<F> {
+    ghost slot = { λ m row node. slot_of m.weights.sheet.parameters m.weights.sheet.node row node };
 
     fn slot(&self, row: usize, node: usize) -> usize {
-        let sheet = self.sheet;
-        sheet.slot(row, node)
+        self.weights.sheet.slot(row, node)
     }
 }
 
 // How a node is made from the data.
-#[derive(Clone, Copy)]
-pub struct Column {
-    pub(crate) sheet: NodeSheet,
-    pub(crate) weights: [usize; 32],
+pub struct Column<F: NumberedField> {
+    weights: NodeWeights<F>,
+    ghost gap: { weights.gap ≡ weights.sheet.parameters.k },
 }
 
-impl Column {
-    pub fn new<F: NumberedField>(parameters: Parameters, node: usize) -> Column
+// Kept: a copy by hand, since no derive stands over the ghost fields of a generic struct.
+impl<F: NumberedField> Clone for Column<F> {
+    ghost is_clone = { λ column clone. clone ≡ column };
+
+    ghost is_infallible = { λ _. ⊤ };
+
+    fn clone(&self) -> Result<Column<F>, AllocError> {
+        Ok(*self)
+    }
+}
+
+impl<F: NumberedField> Copy for Column<F> {}
+
+impl<F: NumberedField> Column<F> {
+    pub fn new(parameters: Parameters, node: usize) -> Column<F>
         requires room { parameters.k + parameters.a ≤ F.size }
         requires within { node < nodes parameters }
-        ensures node { (result.sheet.parameters ≡ parameters) × (result.sheet.node ≡ node) }
-        ensures weights { MakingWeights F.Field.ops (numbered_of F.Field.ops.zero F.symbol) result.sheet.parameters result.sheet.node result.weights }
+        ensures { (result.weights.sheet.parameters ≡ parameters) × (result.weights.sheet.node ≡ node) }
     {
-        let weights = making_weights::<F>(parameters, node);
         Column {
-            sheet: NodeSheet::new(parameters, node),
-            weights,
+            weights: NodeWeights::new(NodeSheet::new(parameters, node), parameters.k),
         }
     }
 }
 
-impl<F: NumberedField> Solver<F> for Column {
-    ghost ready = { λ c row. (row < c.sheet.parameters.k) × (c.sheet.parameters.k + c.sheet.parameters.a ≤ F.size) × MakingWeights F.Field.ops (numbered_of F.Field.ops.zero F.symbol) c.sheet.parameters c.sheet.node c.weights };
+#[tactic(auto, unfolding(array::specs::Symbols::array))]
+impl<F: NumberedField> Solver<F> for Column<F> {
+    ghost ready = { λ c row. row < c.weights.sheet.parameters.k };
 
-    ghost solved = { λ c d row. array F.Field.ops (numbered_of F.Field.ops.zero F.symbol) c.sheet.parameters d row c.sheet.node };
+    ghost solved = { λ c d row. array F.Field.ops (numbered_of F.Field.ops.zero F.symbol) c.weights.sheet.parameters d row c.weights.sheet.node };
 
     fn solve<T: Table<F>>(&self, table: &T, row: usize) -> F {
-        let sheet = self.sheet;
+        let sheet = self.weights.sheet;
         if sheet.node < sheet.parameters.k {
             table.look(row, sheet.node)
         } else {
-            parity_symbol(sheet.parameters, &self.weights, table, sheet.node, row)
+            self.weights.parity_symbol(table, row)
         }
     }
 }

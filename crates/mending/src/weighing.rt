@@ -1,65 +1,86 @@
-// The weights of the row rule, computed once for a node and kept by their numbers, and the sums that they make.
-ghost use Rattle.std.specs.Prelude.{◌≡◌, ℕ, ◌+◌, ◌<◌, ◌≤◌};
+// The weights of the row rule, computed once for a node, and the sums that they make.
+ghost use Rattle.std.specs.Prelude.{◌≡◌, ⊤, ℕ, ◌+◌, ◌<◌, ◌≤◌};
 ghost use Rattle.row.specs.Numbered.{numbered as numbered_of};
-ghost use Rattle.mending.specs.Weights.{Weighs, weighed, MakingWeights, MendingWeights};
+ghost use Rattle.array.specs.Recovered.{around};
+ghost use Rattle.mending.specs.Weights.{Weighs};
 
-use array::{Parameters, skip, weight};
+use crate::node_sheet::NodeSheet;
+use array::{skip, weight};
 use field::{Field, NumberedField};
 use row::numbered;
 use sheet::Table;
+use std::alloc::AllocError;
+use std::marker::PhantomData;
+
+// A node's listing, and its weights from the nodes 0, .., k but `gap`, by their numbers: a data node below the gap and a
+// node of Class B have none.
+pub(crate) struct NodeWeights<F: NumberedField> {
+    pub(crate) sheet: NodeSheet,
+    pub(crate) gap: usize,
+    // Kept: 32 numbers, not k symbols: no heap is lent, and a caller generic over F would owe that 32 symbols fit into memory.
+    weights: [usize; 32],
+    of: PhantomData<F>,
+    ghost room: { sheet.parameters.k + sheet.parameters.a ≤ F.size },
+    ghost weighs: { gap ≤ sheet.node → sheet.node < sheet.parameters.k + sheet.parameters.a → Weighs F.Field.ops (numbered_of F.Field.ops.zero F.symbol) sheet.parameters.k gap sheet.node weights },
+}
+
+// Kept: a copy by hand, since no derive stands over the ghost fields of a generic struct.
+impl<F: NumberedField> Clone for NodeWeights<F> {
+    ghost is_clone = { λ weights clone. clone ≡ weights };
+
+    ghost is_infallible = { λ _. ⊤ };
+
+    fn clone(&self) -> Result<NodeWeights<F>, AllocError> {
+        Ok(*self)
+    }
+}
+
+impl<F: NumberedField> Copy for NodeWeights<F> {}
 
 // The weights at a node, from the nodes 0, .., k but `gap`.
 fn weights<F: NumberedField>(k: usize, gap: usize, node: usize) -> [usize; 32]
-    requires { (k < F.size) × (k ≤ 32) }
+    requires { k ≤ 32 }
     ensures { Weighs F.Field.ops (numbered_of F.Field.ops.zero F.symbol) k gap node result }
 {
     let point = numbered::<F>(node);
-    let mut weights = [0usize; 32];
-    for l in 0..k {
-        weights[l] = weight(k, gap, l, point).number();
+    let mut weights = [0; 32];
+    for (l, kept) in weights[..k].iter_mut().enumerate() {
+        *kept = weight(k, gap, l, point).number();
     }
     weights
 }
 
-// The weights that the symbols of a node are made with.
-pub(crate) fn making_weights<F: NumberedField>(parameters: Parameters, node: usize) -> [usize; 32]
-    requires { parameters.k < F.size }
-    ensures { MakingWeights F.Field.ops (numbered_of F.Field.ops.zero F.symbol) parameters node result }
-{
-    if node < parameters.k || parameters.k + parameters.a <= node {
-        [0usize; 32]
-    } else {
-        weights::<F>(parameters.k, parameters.k, node)
+impl<F: NumberedField> NodeWeights<F> {
+    pub(crate) fn new(sheet: NodeSheet, gap: usize) -> NodeWeights<F>
+        requires { sheet.parameters.k + sheet.parameters.a ≤ F.size }
+        ensures { (result.sheet ≡ sheet) × (result.gap ≡ gap) }
+    {
+        let NodeSheet { parameters, node } = sheet;
+        let weights = if gap <= node && node < parameters.k + parameters.a {
+            weights::<F>(parameters.k, gap, node)
+        } else {
+            // Kept: zeros where no weight is used, since the node's number says so and an Option would say it again.
+            [0; 32]
+        };
+        NodeWeights {
+            sheet,
+            gap,
+            weights,
+            of: PhantomData,
+        }
     }
-}
 
-// The weights that the symbols of a node are mended with.
-pub(crate) fn mending_weights<F: NumberedField>(parameters: Parameters, node: usize) -> [usize; 32]
-    requires { parameters.k < F.size }
-    ensures { MendingWeights F.Field.ops (numbered_of F.Field.ops.zero F.symbol) parameters node result }
-{
-    if node < parameters.k {
-        weights::<F>(parameters.k, node, node)
-    } else {
-        making_weights::<F>(parameters, node)
+    // The row rule at the node, from a row at the nodes 0, .., k but the gap.
+    #[tactic(auto, unfolding(array::specs::Recovered::around))]
+    pub(crate) fn weigh<T: Table<F>>(&self, table: &T, row: usize) -> F
+        requires { (self.now.gap ≤ self.now.sheet.node) × (self.now.sheet.node < self.now.sheet.parameters.k + self.now.sheet.parameters.a) }
+        ensures { result ≡ around F.Field.ops (numbered_of F.Field.ops.zero F.symbol) self.now.sheet.parameters (T.Table.held table.now) self.now.gap row self.now.sheet.node }
+    {
+        let mut total = F::zero();
+        for (l, weight) in self.weights[..self.sheet.parameters.k].iter().enumerate() {
+            let given = table.look(row, skip(self.gap, l));
+            total = total.sum(given.product(numbered::<F>(*weight)));
+        }
+        total
     }
-}
-
-// The symbols of a row at the nodes 0, .., k but `gap`, each times its weight.
-pub(crate) fn weigh<F: NumberedField, T: Table<F>>(
-    weights: &[usize; 32],
-    table: &T,
-    k: usize,
-    gap: usize,
-    row: usize,
-) -> F
-    requires { k ≤ 32 }
-    ensures { result ≡ weighed F.Field.ops (numbered_of F.Field.ops.zero F.symbol) weights.now k gap (T.Table.held table.now) row }
-{
-    let mut total = F::zero();
-    for l in 0..k {
-        let given = table.look(row, skip(gap, l));
-        total = total.sum(given.product(numbered::<F>(weights[l])));
-    }
-    total
 }

@@ -1,6 +1,5 @@
 -- The check of a listing, place by place.
-use Rattle.std.proofs.Common.{◌≡◌, ℕ, zero, suc, ◌+◌, ◌<◌, true, ltb, List, [], ◌∷◌, length, get_or, drop, Ok, Err, Result, sym, refl, ap, ◌∙◌, inl, inr, arith}
-use Rattle.std.proofs.lemmas.List.{at_drop_more}
+use Rattle.std.proofs.Common.{◌≡◌, ℕ, zero, suc, ◌<◌, true, ltb, List, [], ◌∷◌, length, get_or, Ok, Err, Result, sym, refl, ap, ◌∙◌, inl, inr, arith}
 use Rattle.std.proofs.lemmas.Bool.{cases_Bool, cond-false, and_parts, ltb-true}
 use Rattle.store.specs.Meaning.{Meaning, probed, judged, on, fault}
 use Rattle.store.specs.declared.fault.StoreFault.{StoreFault}
@@ -10,66 +9,35 @@ use Rattle.sheet.specs.declared.place.Entry.{Entry}
 use Rattle.sheet.specs.Places.{at, places_of}
 use Rattle.calls.specs.declared.call.CallName.{CallName}
 use Rattle.calls.specs.declared.call.SheetFault.{SheetFault}
-use Rattle.calls.specs.Faults.{sheet_fault, unnamed}
+use Rattle.calls.specs.Faults.{sheet_fault}
 use Rattle.calls.specs.Reading.{symbol_at, or_else}
-use Rattle.reading.specs.Checks.{checked, checked_next, probe_answer, Clear}
-use Rattle.sheet.proofs.Lists.{listed_find}
+use Rattle.reading.specs.Checks.{checked, checked_next, Clear}
+use Rattle.sheet.proofs.Lists.{listed_find, places_length}
 use Rattle.calls.proofs.Declines.{probed_some}
-use Rattle.reading.proofs.Lists.{places_length}
 
-pub probe_ok : {F : Type 0} (r : Result F StoreFault) (s : F) → Ok s ≡ r → Ok tt ≡ probe_answer r
-unfolding probe_answer
-probe_ok r s e = ap probe_answer e
-
-pub probe_err : {F : Type 0} (r : Result F StoreFault) (x : StoreFault) → Err x ≡ r → Err (unnamed x) ≡ probe_answer r
-unfolding probe_answer
-probe_err r x e = ap probe_answer e
-
--- a check of one place
-module _ {F : Type 0} (call : CallName) (m : Meaning F) (e : Entry) where
-  pub one_ok : Ok tt ≡ probe_answer (probed m e.place.row e.place.node) → Ok tt ≡ checked call m (e ∷ [])
-  unfolding checked probe_answer checked_next
-  one_ok h = go (probed m e.place.row e.place.node) h
-    where
-      go : (r : Result F StoreFault) → Ok tt ≡ probe_answer r → Ok tt ≡ checked_next call e r (Ok tt)
-      go (Ok s) h = refl
-      go (Err x) h = let z : ◌≡◌ {A = ℕ} 0 1 = cc in absurd (omega arith)
-
-  pub one_err : (f : SheetFault) → Err f ≡ probe_answer (probed m e.place.row e.place.node) → Err (sheet_fault call e.part f.fault) ≡ checked call m (e ∷ [])
-  unfolding checked probe_answer checked_next
-  one_err f h = go (probed m e.place.row e.place.node) h
-    where
-      go : (r : Result F StoreFault) → Err f ≡ probe_answer r → Err (sheet_fault call e.part f.fault) ≡ checked_next call e r (Ok tt)
-      go (Ok s) h = let z : ◌≡◌ {A = ℕ} 0 1 = cc in absurd (omega arith)
-      go (Err x) h = let w : f ≡ unnamed x = cc in ap (λ y. Err (sheet_fault call e.part y.fault)) w
-
--- the check at a place of the listing
-module _ {F : Type 0} (call : CallName) (m : Meaning F) (es : List Entry) (i : ℕ) (e : Entry) (lt : i < length es) (here : e ≡ get_or es i e) where
-  check_step : checked call m (drop i es) ≡ checked_next call e (probed m e.place.row e.place.node) (checked call m (drop (i + 1) es))
-  unfolding checked
-  check_step = at_drop_more (checked call m) es i e lt ∙ ap (λ q. checked_next call q (probed m q.place.row q.place.node) (checked call m (drop (i + 1) es))) (sym here)
-
-  pub check_pass : Ok tt ≡ checked call m (e ∷ []) → checked call m (drop i es) ≡ checked call m (drop (i + 1) es)
+-- the check of a place, and of the others after it
+module _ {F : Type 0} (call : CallName) (m : Meaning F) (e : Entry) (es : List Entry) where
+  pub check_pass : Ok tt ≡ checked call m (e ∷ []) → checked call m (e ∷ es) ≡ checked call m es
   unfolding checked checked_next
-  check_pass h = check_step ∙ go (probed m e.place.row e.place.node) h
+  check_pass h = go (probed m e.place.row e.place.node) h
     where
-      go : (r : Result F StoreFault) → Ok tt ≡ checked_next call e r (Ok tt) → checked_next call e r (checked call m (drop (i + 1) es)) ≡ checked call m (drop (i + 1) es)
+      go : (r : Result F StoreFault) → Ok tt ≡ checked_next call e r (Ok tt) → checked_next call e r (checked call m es) ≡ checked call m es
       go (Ok s) h = refl
-      go (Err x) h = let z : ◌≡◌ {A = ℕ} 0 1 = cc in absurd (omega arith)
+      go (Err x) h = cc
 
-  pub check_stop : (f : SheetFault) → Err f ≡ checked call m (e ∷ []) → checked call m (drop i es) ≡ Err f
+  pub check_stop : (f : SheetFault) → Err f ≡ checked call m (e ∷ []) → checked call m (e ∷ es) ≡ Err f
   unfolding checked checked_next
-  check_stop f h = check_step ∙ go (probed m e.place.row e.place.node) h
+  check_stop f h = go (probed m e.place.row e.place.node) h
     where
-      go : (r : Result F StoreFault) → Err f ≡ checked_next call e r (Ok tt) → checked_next call e r (checked call m (drop (i + 1) es)) ≡ Err f
-      go (Ok s) h = let z : ◌≡◌ {A = ℕ} 0 1 = cc in absurd (omega arith)
+      go : (r : Result F StoreFault) → Err f ≡ checked_next call e r (Ok tt) → checked_next call e r (checked call m es) ≡ Err f
+      go (Ok s) h = cc
       go (Err x) h = sym h
 
 -- a listing that passed its check is clear
 next_ok : {F : Type 0} (call : CallName) (e : Entry) (r : Result F StoreFault) (rest : Result (Unit {0}) SheetFault) → checked_next call e r rest ≡ Ok tt → ((s : F) × (r ≡ Ok s)) × (rest ≡ Ok tt)
 unfolding checked_next
 next_ok call e (Ok s) rest h = ((s, refl), h)
-next_ok call e (Err x) rest h = let z : ◌≡◌ {A = ℕ} 0 1 = cc in absurd (omega arith)
+next_ok call e (Err x) rest h = cc
 
 checked_at : {F : Type 0} (call : CallName) (m : Meaning F) (es : List Entry) (i : ℕ) (p : Place) → i < length es → p ≡ get_or (places_of es) i p → checked call m es ≡ Ok tt → (s : F) × (probed m p.row p.node ≡ Ok s)
 unfolding checked places_of
@@ -91,7 +59,7 @@ pub record Stopped {F : Type 0} (call : CallName) (m : Meaning F) (es : List Ent
 
 pub checked_stops : {F : Type 0} (call : CallName) (m : Meaning F) (es : List Entry) (f : SheetFault) → checked call m es ≡ Err f → Stopped call m es f
 unfolding checked checked_next
-checked_stops call m [] f h = let z : ◌≡◌ {A = ℕ} 0 1 = cc in absurd (omega arith)
+checked_stops call m [] f h = cc
 checked_stops {F} call m (e ∷ es) f h = go (probed m e.place.row e.place.node) refl h (checked_stops call m es f)
   where
     go : (r : Result F StoreFault) → probed m e.place.row e.place.node ≡ r → checked_next call e r (checked call m es) ≡ Err f → (checked call m es ≡ Err f → Stopped call m es f) → Stopped call m (e ∷ es) f
@@ -106,7 +74,7 @@ module _ {F : Type 0} (m : Meaning F) (i j : ℕ) where
   pub probed_on : (s : F) → probed m i j ≡ Ok s → on m i j ≡ true
   probed_on s e = elim (cases_Bool (on m i j)) [
     | inl t ↦ t
-    | inr t ↦ let q : Err (fault i j OffStore) ≡ Ok s = sym (cond-false (on m i j) (judged (m.symbol i j) (m.meter i j) m.life i j) (Err (fault i j OffStore)) t) ∙ e in let z : ◌≡◌ {A = ℕ} 0 1 = cc in absurd (omega arith)
+    | inr t ↦ let q : Err (fault i j OffStore) ≡ Ok s = sym (cond-false (on m i j) (judged (m.symbol i j) (m.meter i j) m.life i j) (Err (fault i j OffStore)) t) ∙ e in cc
   ]
 
   pub probed_symbol : (z s : F) → probed m i j ≡ Ok s → symbol_at z m i j ≡ s
@@ -115,6 +83,3 @@ module _ {F : Type 0} (m : Meaning F) (i j : ℕ) where
 
   pub probed_row : (s : F) → probed m i j ≡ Ok s → i < m.rows
   probed_row s e = ltb-true i m.rows (and_parts (ltb i m.rows) (ltb j m.nodes) (probed_on s e)).0
-
-pub ok_not_err : {F : Type 0} (r : Result F StoreFault) (s : F) (x : StoreFault) → r ≡ Ok s → Err x ≡ r → ⊥
-ok_not_err r s x p q = let z : ◌≡◌ {A = ℕ} 0 1 = cc in omega arith

@@ -1,9 +1,10 @@
 -- The loop that reads each place of a listing once, into its slot.
-use Rattle.std.proofs.Common.{◌≡◌, ℕ, zero, suc, ◌+◌, ◌-◌, ◌*◌, ◌^◌, ◌<◌, ◌≤◌, Bool, true, false, cond, ◌&&◌, ◌||◌, eqb, ltb, ◌≢◌, ◌⊎◌, List, [], ◌∷◌, ◌++◌, map, length, get_or, take, set, is_ok, Ok, sym, refl, ap, ◌∙◌, subst, ap₂, inl, inr, arith, get_or-set_other, get_or-set_same}
+use Rattle.std.proofs.Common.{append_assoc, ◌≡◌, ℕ, ◌+◌, ◌*◌, ◌<◌, ◌≤◌, Bool, true, false, cond, not, ◌&&◌, ◌||◌, eqb, ◌≢◌, ◌⊎◌, List, [], ◌∷◌, ◌++◌, length, get_or, set, is_ok, Ok, sym, refl, ap, ◌∙◌, subst, ap₂, inl, inr, arith, get_or-set_other, get_or-set_same}
 use mathlib.Core.Path.{fun_ext}
 use lib.Arith.{digits_lt}
-use Rattle.std.proofs.lemmas.List.{length_push, length-set, get_or_past, take_all, get_or_read, length-map}
-use Rattle.std.proofs.lemmas.Bool.{cond-true, cond-false, cases_Bool, both_ways, eq-eqb, ne_eqb, eqb-true, and_parts, and_from, and_left, and_right, le-ltb, lt-ltb, cases_eq, cases_lt}
+use Rattle.std.proofs.Math.Bool.{or-false}
+use Rattle.std.proofs.lemmas.List.{append-nil, length_push, length-set, length-append, get_or_past, get_or_read, length-map, get_or-map}
+use Rattle.std.proofs.lemmas.Bool.{not-true, not-false, cond_both, or_left, cond-true, cond-false, cases_Bool, both_ways, cases_eq, cases_lt}
 use Rattle.store.specs.Meaning.{Meaning, probed, read}
 use Rattle.store.specs.Meaning as store
 use Rattle.sheet.specs.declared.place.Place.{Place}
@@ -13,9 +14,8 @@ use Rattle.sheet.specs.Places.{at, same_place, listed, distinct, distinct_from, 
 use Rattle.code.specs.Codes.{Slotted}
 use Rattle.calls.specs.Reading.{symbol_at, seen, raised, blank_record}
 use Rattle.reading.specs.Checks.{Clear, Readable}
-use Rattle.reading.specs.Tables.{has_place, symbol_for, kept, vacant_record, Vacated, spread_over, laid_out}
-use Rattle.sheet.proofs.Lists.{listed_push, same_place_path, listed_distinct, distinct_skip, distinct_keep}
-use Rattle.reading.proofs.Lists.{listed_old, listed_last, listed_again, listed_take, listed_here, take_one_more}
+use Rattle.reading.specs.Tables.{has_place, symbol_for, kept, vacant_record, Vacated, spread_over}
+use Rattle.sheet.proofs.Lists.{listed_push, listed_append, listed_mid, listed_again, same_place_path, same_place_refl, listed_distinct, distinct_skip, distinct_keep, distinct_few, places_length, places_append}
 use Rattle.reading.proofs.Checking.{probed_row}
 
 -- meters that are raised
@@ -65,219 +65,176 @@ unfolding symbol_at raised
 symbol_raised z m ps i j = refl
 
 -- the record of a place that was read
-unfoldable pub record_of : {F : Type 0} → F → Meaning F → ℕ → ℕ → Record F
-record_of z m i j = record { row = i; node = j; symbol = symbol_at z m i j }
-
-has_own : {F : Type 0} (r : Record F) (i j : ℕ) → r.row ≡ i → r.node ≡ j → has_place r i j ≡ true
-unfolding has_place
-has_own r i j p q = and_from (eqb r.row i) (eqb r.node j) (eq-eqb r.row i p) (eq-eqb r.node j q)
-
-has_parts : {F : Type 0} (r : Record F) (i j : ℕ) → has_place r i j ≡ true → (r.row ≡ i) × (r.node ≡ j)
-unfolding has_place
-has_parts r i j e = let p = and_parts (eqb r.row i) (eqb r.node j) e in (eqb-true r.row i p.0, eqb-true r.node j p.1)
+unfoldable pub record_of : {F : Type 0} → F → Meaning F → Place → Record F
+record_of z m p = record { place = p; symbol = symbol_at z m p.row p.node }
 
 -- what the loop has done once it has gone through ps
 pub record Filled {F : Type 0} (z : F) (m₀ : Meaning F) (slot : ℕ → ℕ → ℕ) (ps : List Place) (m : Meaning F) (mem : List (Record F)) (count : ℕ) : Type 0 where
   pub counted : count ≡ length (distinct ps)
   pub leaves : m ≡ raised m₀ ps
-  pub has : (i j : ℕ) → listed ps (at i j) ≡ true → get_or mem (slot i j) (blank_record z) ≡ record_of z m₀ i j
-  pub rest : (k : ℕ) → k < length mem → (get_or mem k (blank_record z) ≡ vacant_record z) ⊎ (listed ps (at (get_or mem k (blank_record z)).row (get_or mem k (blank_record z)).node) ≡ true)
+  pub has : (p : Place) → listed ps p ≡ true → get_or mem (slot p.row p.node) (blank_record z) ≡ record_of z m₀ p
+  pub rest : (k : ℕ) → k < length mem → (get_or mem k (blank_record z) ≡ vacant_record z) ⊎ (listed ps (get_or mem k (blank_record z)).place ≡ true)
 
-module _ {F : Type 0} (z : F) (m₀ : Meaning F) (few : m₀.rows ≤ 32) (slot : ℕ → ℕ → ℕ) where
-  pub filled_none : (mem : List (Record F)) → Vacated z mem → Filled z m₀ slot [] m₀ mem 0
-  unfolding distinct distinct_from listed Vacated
-  filled_none mem v = record { counted = refl; leaves = sym (raised_none m₀); has = λ i j e. let x : ◌≡◌ {A = ℕ} 0 1 = cc in absurd (omega arith); rest = λ k l. inl (v k l) }
+module _ {F : Type 0} (z : F) (m₀ : Meaning F) (slot : ℕ → ℕ → ℕ) where
+  pub filled_none : (mem : List (Record F)) → Vacated z mem → Filled z m₀ slot (places_of []) m₀ mem 0
+  unfolding places_of distinct distinct_from listed Vacated
+  filled_none mem v = record { counted = refl; leaves = sym (raised_none m₀); has = λ p e. cc; rest = λ k l. inl (v k l) }
 
   -- the table that is left
   pub filled_table : (ps : List Place) (m : Meaning F) (mem : List (Record F)) (count : ℕ) → Filled z m₀ slot ps m mem count → kept z mem slot ≡ seen z m₀ ps
-  unfolding kept seen symbol_for record_of blank_record vacant_record
-  filled_table ps m mem count f = fun_ext (λ i. fun_ext (λ j. elim (cases_Bool (listed ps (at i j))) [ inl l ↦ here i j l | inr n ↦ off i j n (cases_lt (slot i j) (length mem)) ∙ sym (cond-false (listed ps (at i j)) (symbol_at z m₀ i j) z n) ]))
+  unfolding kept seen symbol_for has_place record_of blank_record vacant_record
+  filled_table ps m mem count f = fun_ext (λ i. fun_ext (λ j. go i j (cases_Bool (listed ps (at i j)))))
     where
-      here : (i j : ℕ) → listed ps (at i j) ≡ true → symbol_for z (get_or mem (slot i j) (blank_record z)) i j ≡ cond (listed ps (at i j)) (symbol_at z m₀ i j) z
-      here i j l = ap (λ r. symbol_for z r i j) (f.has i j l) ∙ cond-true (has_place (record_of z m₀ i j) i j) (symbol_at z m₀ i j) z (has_own (record_of z m₀ i j) i j refl refl) ∙ sym (cond-true (listed ps (at i j)) (symbol_at z m₀ i j) z l)
+      -- what memory has in the slot of a place
+      there : ℕ → ℕ → Record F
+      there i j = get_or mem (slot i j) (blank_record z)
 
-      zero_for : (r : Record F) (i j : ℕ) → r.symbol ≡ z → symbol_for z r i j ≡ z
-      zero_for r i j e = go (has_place r i j)
-        where
-          go : (b : Bool) → cond b r.symbol z ≡ z
-          go true = e
-          go false = refl
+      bare : (r : Record F) (i j : ℕ) → r.symbol ≡ z → cond (same_place r.place (at i j)) r.symbol z ≡ z
+      bare r i j e = cond_both (same_place r.place (at i j)) r.symbol z (λ x. x ≡ z) (λ _. e) (λ _. refl)
 
-      away : (r : Record F) (i j : ℕ) → listed ps (at i j) ≡ false → listed ps (at r.row r.node) ≡ true → symbol_for z r i j ≡ z
-      away r i j n l = elim (cases_Bool (has_place r i j)) [ inl e ↦ let p = has_parts r i j e in absurd (both_ways (listed ps (at i j)) n (ap (listed ps) (ap₂ at (sym p.0) (sym p.1)) ∙ l)) | inr e ↦ cond-false (has_place r i j) r.symbol z e ]
+      off : (i j : ℕ) → listed ps (at i j) ≡ false → (slot i j < length mem) ⊎ (length mem ≤ slot i j) → cond (same_place (get_or mem (slot i j) (blank_record z)).place (at i j)) (get_or mem (slot i j) (blank_record z)).symbol z ≡ z
+      off i j n (inr past) = bare (get_or mem (slot i j) (blank_record z)) i j (ap (λ r. r.symbol) (get_or_past mem (slot i j) (blank_record z) past))
+      off i j n (inl lt) = elim (f.rest (slot i j) lt) [
+        | inl v ↦ bare (get_or mem (slot i j) (blank_record z)) i j (ap (λ r. r.symbol) v)
+        | inr l ↦ cond_both (same_place (get_or mem (slot i j) (blank_record z)).place (at i j)) _ z (λ x. x ≡ z) (λ e. absurd (both_ways (listed ps (at i j)) n (ap (listed ps) (sym (same_place_path _ (at i j) e)) ∙ l))) (λ _. refl)
+      ]
 
-      off : (i j : ℕ) → listed ps (at i j) ≡ false → (slot i j < length mem) ⊎ (length mem ≤ slot i j) → symbol_for z (get_or mem (slot i j) (blank_record z)) i j ≡ z
-      off i j n (inr past) = zero_for (get_or mem (slot i j) (blank_record z)) i j (ap (λ r. r.symbol) (get_or_past mem (slot i j) (blank_record z) past))
-      off i j n (inl lt) = elim (f.rest (slot i j) lt) [ inl v ↦ zero_for (get_or mem (slot i j) (blank_record z)) i j (ap (λ r. r.symbol) v) | inr l ↦ away (get_or mem (slot i j) (blank_record z)) i j n l ]
+      go : (i j : ℕ) → (listed ps (at i j) ≡ true) ⊎ (listed ps (at i j) ≡ false) → cond (same_place (get_or mem (slot i j) (blank_record z)).place (at i j)) (get_or mem (slot i j) (blank_record z)).symbol z ≡ cond (listed ps (at i j)) (symbol_at z m₀ i j) z
+      go i j (inl l) = ap (λ r. cond (same_place r.place (at i j)) r.symbol z) (f.has (at i j) l) ∙ cond-true (same_place (at i j) (at i j)) (symbol_at z m₀ i j) z (same_place_refl (at i j)) ∙ sym (cond-true (listed ps (at i j)) (symbol_at z m₀ i j) z l)
+      go i j (inr n) = off i j n (cases_lt (slot i j) (length mem)) ∙ sym (cond-false (listed ps (at i j)) (symbol_at z m₀ i j) z n)
 
-  -- one place of the listing
-  module _ (es : List Entry) (clear : Clear m₀ (places_of es)) (i : ℕ) (p : Place) (lt : i < length (places_of es)) (here : p ≡ get_or (places_of es) i p) (m : Meaning F) (mem : List (Record F)) (slots : Slotted es slot (length mem)) (count : ℕ) (f : Filled z m₀ slot (take i (places_of es)) m mem count) where
-    on_list : listed (places_of es) p ≡ true
-    on_list = listed_here (places_of es) i p lt here
+-- one place of the listing, after those of the front
+module _ {F : Type 0} {z : F} {m₀ : Meaning F} {slot : ℕ → ℕ → ℕ} {es left rest : List Entry} {e : Entry} {m : Meaning F} {mem : List (Record F)} {count room : ℕ} (front : List Entry) (few : m₀.rows ≤ 32) (clear : Clear m₀ (places_of es)) (slots : Slotted es slot room) (same : length mem ≡ room) (whole : front ++ left ≡ es) (step : left ≡ e ∷ rest) (f : Filled z m₀ slot (places_of front) m mem count) where
+  parted : places_of es ≡ places_of front ++ (e.place ∷ places_of rest)
+  unfolding places_of
+  parted = ap places_of (sym whole ∙ ap (λ x. front ++ x) step) ∙ places_append front (e ∷ rest)
 
-    pub slot_in : slot p.row p.node < length mem
-    slot_in = slots.within p.row p.node on_list
+  on_list : listed (places_of es) e.place ≡ true
+  on_list = ap (λ x. listed x e.place) parted ∙ listed_mid (places_of front) e.place (places_of rest)
 
-    one_more : take (i + 1) (places_of es) ≡ take i (places_of es) ++ (p ∷ [])
-    one_more = take_one_more (places_of es) i p lt here
+  old_on_list : (q : Place) → listed (places_of front) q ≡ true → listed (places_of es) q ≡ true
+  old_on_list q l = ap (λ x. listed x q) parted ∙ listed_append (places_of front) (e.place ∷ places_of rest) q ∙ or_left (listed (places_of front) q) (listed (e.place ∷ places_of rest) q) l
 
-    -- a record with the place says that it was read
-    old_place : has_place (get_or mem (slot p.row p.node) (blank_record z)) p.row p.node ≡ true → listed (take i (places_of es)) p ≡ true
-    unfolding vacant_record
-    old_place h =
-        let q = has_parts (get_or mem (slot p.row p.node) (blank_record z)) p.row p.node h in
-        elim (f.rest (slot p.row p.node) slot_in) [
-          | inl v ↦ let c = clear p.row p.node on_list in let big : (get_or mem (slot p.row p.node) (blank_record z)).row ≡ 2 ^ 64 - 1 = ap (λ r. r.row) v in let l = probed_row m₀ p.row p.node c.0 c.1 in let same = q.0 in absurd (omega arith)
-          | inr l ↦ ap (listed (take i (places_of es))) (ap₂ at (sym q.0) (sym q.1)) ∙ l
-        ]
+  one_more : places_of (front ++ (e ∷ [])) ≡ places_of front ++ (e.place ∷ [])
+  unfolding places_of
+  one_more = places_append front (e ∷ [])
 
-    pub filled_skip : has_place (get_or mem (slot p.row p.node) (blank_record z)) p.row p.node ≡ true → Filled z m₀ slot (take (i + 1) (places_of es)) m mem count
-    filled_skip h = subst (λ qs. Filled z m₀ slot qs m mem count) (sym one_more) again
-      where
-        ps : List Place
-        ps = take i (places_of es)
+  here_in : slot e.place.row e.place.node < length mem
+  here_in = omega (arith, slots.within e.place.row e.place.node on_list)
 
-        old : listed (take i (places_of es)) p ≡ true
-        old = old_place h
+  pub slot_in : (k : ℕ) → k ≡ slot e.place.row e.place.node → k < length mem
+  slot_in k at-k = omega (arith, here_in)
 
-        again : Filled z m₀ slot (take i (places_of es) ++ (p ∷ [])) m mem count
-        again = record {
-          counted = f.counted ∙ ap length (sym (distinct_skip (take i (places_of es)) p (listed_distinct (take i (places_of es)) p ∙ old)));
-          leaves = f.leaves ∙ raised_same m₀ (take i (places_of es)) (take i (places_of es) ++ (p ∷ [])) (λ q. sym (listed_again (take i (places_of es)) p q old));
-          has = λ a b l. f.has a b (sym (listed_again (take i (places_of es)) p (at a b) old) ∙ l);
-          rest = λ k l. elim (f.rest k l) [ inl v ↦ inl v | inr t ↦ inr (listed_old (take i (places_of es)) p _ t) ];
-        }
+  -- each place counts once at most
+  pub count_below : count < length es
+  count_below = omega (arith, f.counted, distinct_few (places_of front), places_length front, ap length (sym whole ∙ ap (λ x. front ++ x) step), length-append front (e ∷ rest))
 
-    -- a record without it says that it was not
-    new_place : has_place (get_or mem (slot p.row p.node) (blank_record z)) p.row p.node ≡ false → listed (take i (places_of es)) p ≡ false
-    unfolding record_of
-    new_place h = elim (cases_Bool (listed (take i (places_of es)) p)) [
-      | inr n ↦ n
-      | inl l ↦ let e = f.has p.row p.node l in absurd (both_ways (has_place (get_or mem (slot p.row p.node) (blank_record z)) p.row p.node) h (has_own (get_or mem (slot p.row p.node) (blank_record z)) p.row p.node (ap (λ r. r.row) e) (ap (λ r. r.node) e)))
-    ]
+  -- the next turn has one place more
+  pub whole_more : (front ++ (e ∷ [])) ++ rest ≡ es
+  whole_more = append_assoc front (e ∷ []) rest ∙ ap (λ x. front ++ x) (sym step) ∙ whole
 
-    pub readable : has_place (get_or mem (slot p.row p.node) (blank_record z)) p.row p.node ≡ false → Readable m p.row p.node
-    readable h = let c = clear p.row p.node on_list in (c.0, ap (λ x. probed x p.row p.node) f.leaves ∙ probed_raised m₀ (take i (places_of es)) p.row p.node (new_place h) ∙ c.1)
+  -- a record with the place says that it was read
+  old_place : same_place (get_or mem (slot e.place.row e.place.node) (blank_record z)).place e.place ≡ true → listed (places_of front) e.place ≡ true
+  unfolding vacant_record
+  old_place h =
+      let q = same_place_path _ e.place h in
+      elim (f.rest (slot e.place.row e.place.node) here_in) [
+        | inl v ↦ let c = clear e.place.row e.place.node on_list in absurd (omega (arith, ap (λ p. p.row) q, ap (λ r. r.place.row) v, probed_row m₀ e.place.row e.place.node c.0 c.1))
+        | inr l ↦ ap (listed (places_of front)) (sym q) ∙ l
+      ]
 
-    pub filled_read : has_place (get_or mem (slot p.row p.node) (blank_record z)) p.row p.node ≡ false → (m' : Meaning F) (s : F) → s ≡ symbol_at z m p.row p.node → m' ≡ raised m (p ∷ []) → Filled z m₀ slot (take (i + 1) (places_of es)) m' (set mem (slot p.row p.node) (record { row = p.row; node = p.node; symbol = s })) (count + 1)
-    unfolding record_of
-    filled_read h m' s sym-is left = subst (λ qs. Filled z m₀ slot qs m' mem' (count + 1)) (sym one_more) more
-      where
-        here_slot : ℕ
-        here_slot = slot p.row p.node
+  pub filled_skip : same_place (get_or mem (slot e.place.row e.place.node) (blank_record z)).place e.place ≡ true → Filled z m₀ slot (places_of (front ++ (e ∷ []))) m mem count
+  filled_skip h = subst (λ qs. Filled z m₀ slot qs m mem count) (sym one_more) again
+    where
+      old : listed (places_of front) e.place ≡ true
+      old = old_place h
 
-        new_record : Record F
-        new_record = record { row = p.row; node = p.node; symbol = s }
+      again : Filled z m₀ slot (places_of front ++ (e.place ∷ [])) m mem count
+      again = record {
+        counted = f.counted ∙ ap length (sym (distinct_skip (places_of front) e.place (listed_distinct (places_of front) e.place ∙ old)));
+        leaves = f.leaves ∙ raised_same m₀ (places_of front) (places_of front ++ (e.place ∷ [])) (λ q. sym (listed_again (places_of front) e.place q old));
+        has = λ p l. f.has p (sym (listed_again (places_of front) e.place p old) ∙ l);
+        rest = λ k l. elim (f.rest k l) [ inl v ↦ inl v | inr t ↦ inr (listed_again (places_of front) e.place _ old ∙ t) ];
+      }
 
-        mem' : List (Record F)
-        mem' = set mem (slot p.row p.node) (record { row = p.row; node = p.node; symbol = s })
+  -- a record without it says that it was not
+  new_place : same_place (get_or mem (slot e.place.row e.place.node) (blank_record z)).place e.place ≡ false → listed (places_of front) e.place ≡ false
+  unfolding record_of
+  new_place h = elim (cases_Bool (listed (places_of front) e.place)) [
+    | inr n ↦ n
+    | inl l ↦ absurd (both_ways _ h (ap (λ r. same_place r.place e.place) (f.has e.place l) ∙ same_place_refl e.place))
+  ]
 
-        new : listed (take i (places_of es)) p ≡ false
-        new = new_place h
+  pub readable : same_place (get_or mem (slot e.place.row e.place.node) (blank_record z)).place e.place ≡ false → Readable m e.place.row e.place.node
+  readable h = let c = clear e.place.row e.place.node on_list in (c.0, ap (λ x. probed x e.place.row e.place.node) f.leaves ∙ probed_raised m₀ (places_of front) e.place.row e.place.node (new_place h) ∙ c.1)
 
-        is_new : record { row = p.row; node = p.node; symbol = s } ≡ record_of z m₀ p.row p.node
-        is_new = ap (λ x. record { row = p.row; node = p.node; symbol = x }) (sym-is ∙ ap (λ x. symbol_at z x p.row p.node) f.leaves ∙ symbol_raised z m₀ (take i (places_of es)) p.row p.node)
+  pub filled_read : same_place (get_or mem (slot e.place.row e.place.node) (blank_record z)).place e.place ≡ false → (m' : Meaning F) (s : F) → s ≡ symbol_at z m e.place.row e.place.node → m' ≡ raised m (e.place ∷ []) → (k : ℕ) → k ≡ slot e.place.row e.place.node → Filled z m₀ slot (places_of (front ++ (e ∷ []))) m' (set mem k (record { place = e.place; symbol = s })) (count + 1)
+  unfolding record_of
+  filled_read h m' s sym-is left k at-k = subst (λ t. Filled z m₀ slot (places_of (front ++ (e ∷ []))) m' (set mem t (record { place = e.place; symbol = s })) (count + 1)) (sym at-k) (subst (λ qs. Filled z m₀ slot qs m' (set mem (slot e.place.row e.place.node) (record { place = e.place; symbol = s })) (count + 1)) (sym one_more) more)
+    where
+      ps : List Place
+      ps = places_of front
 
-        set_here : get_or (set mem (slot p.row p.node) (record { row = p.row; node = p.node; symbol = s })) (slot p.row p.node) (blank_record z) ≡ record { row = p.row; node = p.node; symbol = s }
-        set_here = let l = slot_in in rw get_or-set_same
+      mem' : List (Record F)
+      mem' = set mem (slot e.place.row e.place.node) (record { place = e.place; symbol = s })
 
-        set_away : (k : ℕ) → k ≢ slot p.row p.node → get_or (set mem (slot p.row p.node) (record { row = p.row; node = p.node; symbol = s })) k (blank_record z) ≡ get_or mem k (blank_record z)
-        set_away k ne = rw get_or-set_other
+      new : listed (places_of front) e.place ≡ false
+      new = new_place h
 
-        has_old : (a b : ℕ) → listed (take i (places_of es)) (at a b) ≡ true → slot a b ≢ slot p.row p.node
-        has_old a b l e =
-            let q = slots.apart a b p.row p.node (listed_take i (places_of es) (at a b) l) on_list e in
-            both_ways (listed (take i (places_of es)) p) new (ap (listed (take i (places_of es))) (ap₂ at (sym q.0) (sym q.1)) ∙ l)
+      set_here : get_or (set mem (slot e.place.row e.place.node) (record { place = e.place; symbol = s })) (slot e.place.row e.place.node) (blank_record z) ≡ record { place = e.place; symbol = s }
+      set_here = let l = here_in in rw get_or-set_same
 
-        has_all : (a b : ℕ) → listed (take i (places_of es) ++ (p ∷ [])) (at a b) ≡ true → get_or mem' (slot a b) (blank_record z) ≡ record_of z m₀ a b
-        has_all a b l = elim (cases_Bool (same_place (at a b) p)) [
-          | inl e ↦ let q = same_place_path (at a b) p e in subst (λ x. get_or mem' (slot x.row x.node) (blank_record z) ≡ record_of z m₀ x.row x.node) (sym q) (set_here ∙ is_new)
-          | inr e ↦ let o : listed (take i (places_of es)) (at a b) ≡ true = sym (drop_none (listed (take i (places_of es)) (at a b)) (same_place (at a b) p) e) ∙ sym (listed_push (take i (places_of es)) p (at a b)) ∙ l in set_away (slot a b) (has_old a b o) ∙ f.has a b o
-        ]
-          where
-            drop_none : (x y : Bool) → y ≡ false → (x || (y || false)) ≡ x
-            drop_none true y e = refl
-            drop_none false true e = e
-            drop_none false false e = refl
+      set_away : (k : ℕ) → k ≢ slot e.place.row e.place.node → get_or (set mem (slot e.place.row e.place.node) (record { place = e.place; symbol = s })) k (blank_record z) ≡ get_or mem k (blank_record z)
+      set_away k ne = rw get_or-set_other
 
-        rest_all : (k : ℕ) → k < length mem' → (get_or mem' k (blank_record z) ≡ vacant_record z) ⊎ (listed (take i (places_of es) ++ (p ∷ [])) (at (get_or mem' k (blank_record z)).row (get_or mem' k (blank_record z)).node) ≡ true)
-        rest_all k l = elim (cases_eq k (slot p.row p.node)) [
-          | inl e ↦ inr (ap (λ r. listed (take i (places_of es) ++ (p ∷ [])) (at r.row r.node)) (ap (λ t. get_or mem' t (blank_record z)) e ∙ set_here) ∙ listed_last (take i (places_of es)) p)
-          | inr ne ↦ let same = set_away k ne in elim (f.rest k (omega (arith, length-set mem (slot p.row p.node) (record { row = p.row; node = p.node; symbol = s })))) [
+      is_new : record { place = e.place; symbol = s } ≡ record_of z m₀ e.place
+      is_new = ap (λ x. record { place = e.place; symbol = x }) (sym-is ∙ ap (λ x. symbol_at z x e.place.row e.place.node) f.leaves ∙ symbol_raised z m₀ (places_of front) e.place.row e.place.node)
+
+      more : Filled z m₀ slot (places_of front ++ (e.place ∷ [])) m' (set mem (slot e.place.row e.place.node) (record { place = e.place; symbol = s })) (count + 1)
+      more = record {
+        counted = ap (λ n. n + 1) f.counted ∙ sym (length_push (distinct (places_of front)) e.place) ∙ ap length (sym (distinct_keep (places_of front) e.place (listed_distinct (places_of front) e.place ∙ new)));
+        leaves = left ∙ ap (λ x. raised x (e.place ∷ [])) f.leaves ∙ raised_push m₀ (places_of front) e.place new;
+        has = λ p l. elim (cases_Bool (same_place p e.place)) [
+          | inl t ↦ subst (λ x. get_or mem' (slot x.row x.node) (blank_record z) ≡ record_of z m₀ x) (sym (same_place_path p e.place t)) (set_here ∙ is_new)
+          | inr t ↦
+              let o : listed (places_of front) p ≡ true = sym (listed_push (places_of front) e.place p ∙ ap (λ b. listed (places_of front) p || (b || false)) t ∙ or-false (listed (places_of front) p)) ∙ l in
+              set_away (slot p.row p.node) (λ q. let a = slots.apart p.row p.node e.place.row e.place.node (old_on_list p o) on_list q in both_ways _ new (ap (listed (places_of front)) (ap₂ at (sym a.0) (sym a.1)) ∙ o)) ∙ f.has p o
+        ];
+        rest = λ k l. elim (cases_eq k (slot e.place.row e.place.node)) [
+          | inl t ↦ inr (ap (λ r. listed (places_of front ++ (e.place ∷ [])) r.place) (ap (λ u. get_or mem' u (blank_record z)) t ∙ set_here) ∙ listed_mid (places_of front) e.place [])
+          | inr ne ↦ let same = set_away k ne in elim (f.rest k (omega (arith, length-set mem (slot e.place.row e.place.node) (record { place = e.place; symbol = s })))) [
             | inl v ↦ inl (same ∙ v)
-            | inr t ↦ inr (ap (λ r. listed (take i (places_of es) ++ (p ∷ [])) (at r.row r.node)) same ∙ listed_old (take i (places_of es)) p _ t)
+            | inr t ↦ inr (ap (λ r. listed (places_of front ++ (e.place ∷ [])) r.place) same ∙ listed_push (places_of front) e.place _ ∙ or_left _ _ t)
           ]
-        ]
+        ];
+      }
 
-        more : Filled z m₀ slot (take i (places_of es) ++ (p ∷ [])) m' (set mem (slot p.row p.node) (record { row = p.row; node = p.node; symbol = s })) (count + 1)
-        more = record {
-          counted = ap (λ n. n + 1) f.counted ∙ sym (length_push (distinct (take i (places_of es))) p) ∙ ap length (sym (distinct_keep (take i (places_of es)) p (listed_distinct (take i (places_of es)) p ∙ new)));
-          leaves = left ∙ ap (λ x. raised x (p ∷ [])) f.leaves ∙ raised_push m₀ (take i (places_of es)) p new;
-          has = has_all;
-          rest = rest_all;
-        }
-
-  pub filled_all : (ps : List Place) (i : ℕ) → length ps ≤ i → (m : Meaning F) (mem : List (Record F)) (count : ℕ) → Filled z m₀ slot (take i ps) m mem count → Filled z m₀ slot ps m mem count
-  filled_all ps i h m mem count f = subst (λ qs. Filled z m₀ slot qs m mem count) (take_all i ps h) f
+-- the whole listing
+pub filled_all : {F : Type 0} {z : F} {m₀ : Meaning F} {slot : ℕ → ℕ → ℕ} {es left : List Entry} {m : Meaning F} {mem : List (Record F)} {count : ℕ} (front : List Entry) → front ++ left ≡ es → left ≡ [] → Filled z m₀ slot (places_of front) m mem count → Filled z m₀ slot (places_of es) m mem count
+filled_all {z = z} {m₀ = m₀} {slot = slot} {m = m} {mem = mem} {count = count} front whole none f =
+    subst (λ x. Filled z m₀ slot (places_of x) m mem count) (sym (append-nil front) ∙ ap (λ x. front ++ x) (sym none) ∙ whole) f
 
 -- reading a listing raises the meters of its sheet
 pub raised_sheet : {F : Type 0} (m : Meaning F) (es : List Entry) → raised m (places_of es) ≡ raised m (sheet_of es)
 unfolding sheet_of
 raised_sheet m es = raised_same m (places_of es) (distinct (places_of es)) (λ p. sym (listed_distinct (places_of es) p))
 
--- records by place
-module _ {F : Type 0} (xs : List (Record F)) (k : ℕ) (r b : Record F) (lt : k < length xs) (here : r ≡ get_or xs k r) (i j : ℕ) where
-  read_at : r ≡ get_or xs k b
-  read_at = get_or_read xs k r lt here b
+-- the test of the record in a slot
+module _ {F : Type 0} (xs : List (Record F)) (k : ℕ) (r b : Record F) (p : Place) (lt : k < length xs) (is : r ≡ get_or xs k r) where
+  slot_test : {n : ℕ} → k ≡ n → same_place (get_or xs n b).place p ≡ same_place (get_or xs k r).place p
+  slot_test at-n = ap (λ t. same_place (get_or xs t b).place p) (sym at-n) ∙ ap (λ q. same_place q.place p) (sym (get_or_read xs k r lt is b) ∙ is)
 
-  pub keeps_row : r.row ≡ i → eqb r.node j ≡ has_place (get_or xs k b) i j
-  unfolding has_place
-  keeps_row e = ap (λ t. t && eqb r.node j) (sym (eq-eqb r.row i e)) ∙ ap (λ x. eqb x.row i && eqb x.node j) read_at
+  pub slot_other : {n : ℕ} → k ≡ n → true ≡ not (same_place (get_or xs k r).place p) → same_place (get_or xs n b).place p ≡ false
+  slot_other at-n h = slot_test at-n ∙ not-true _ (sym h)
 
-  pub keeps_no_row : (r.row ≡ i → ⊥) → eqb r.row i ≡ has_place (get_or xs k b) i j
-  unfolding has_place
-  keeps_no_row n = ne_eqb r.row i n ∙ ap (λ t. t && eqb r.node j) (sym (ne_eqb r.row i n)) ∙ ap (λ x. eqb x.row i && eqb x.node j) read_at
-
-module _ {F : Type 0} (z : F) (xs : List (Record F)) (slot : ℕ → ℕ → ℕ) (i j k : ℕ) (here : k ≡ slot i j) where
-  pub look_past : length xs ≤ k → (s : F) → s ≡ z → s ≡ kept z xs slot i j
-  unfolding kept symbol_for blank_record
-  look_past past s e = e ∙ sym (ap (λ t. symbol_for z (get_or xs t (blank_record z)) i j) (sym here) ∙ ap (λ r. symbol_for z r i j) (get_or_past xs k (blank_record z) past) ∙ none (has_place (blank_record z) i j))
-    where
-      none : (b : Bool) → cond b z z ≡ z
-      none true = refl
-      none false = refl
-
-  pub look_has : (r : Record F) → k < length xs → r ≡ get_or xs k r → has_place (get_or xs k (blank_record z)) i j ≡ true → r.symbol ≡ kept z xs slot i j
-  unfolding kept symbol_for
-  look_has r lt e h = ap (λ x. x.symbol) (get_or_read xs k r lt e (blank_record z)) ∙ sym (cond-true (has_place (get_or xs k (blank_record z)) i j) (get_or xs k (blank_record z)).symbol z h) ∙ ap (λ t. symbol_for z (get_or xs t (blank_record z)) i j) here
-
-  pub look_not : has_place (get_or xs k (blank_record z)) i j ≡ false → (s : F) → s ≡ z → s ≡ kept z xs slot i j
-  unfolding kept symbol_for
-  look_not h s e = e ∙ sym (cond-false (has_place (get_or xs k (blank_record z)) i j) (get_or xs k (blank_record z)).symbol z h) ∙ ap (λ t. symbol_for z (get_or xs t (blank_record z)) i j) here
+  pub slot_same : {n : ℕ} → k ≡ n → false ≡ not (same_place (get_or xs k r).place p) → same_place (get_or xs n b).place p ≡ true
+  slot_same at-n h = slot_test at-n ∙ not-false _ (sym h)
 
 -- a memory without a place
 pub spread_vacated : {F : Type 0} (z : F) (r : Record F) (mem : List (Record F)) → r ≡ vacant_record z → Vacated z (spread_over r mem)
 unfolding Vacated spread_over
-spread_vacated z r mem e k l = each mem k (omega (arith, length-map mem (λ _. r))) ∙ e
-  where
-    each : {A : Type 0} (xs : List A) (n : ℕ) → n < length xs → get_or (map (λ _. r) xs) n (blank_record z) ≡ r
-    each [] n lt = absurd (omega arith)
-    each (x ∷ xs) zero lt = refl
-    each (x ∷ xs) (suc n) lt = each xs n (omega arith)
+spread_vacated z r mem e k l = get_or-map (λ _. r) mem k (blank_record z) (blank_record z) (omega (arith, length-map mem (λ _. r))) ∙ e
 
--- symbols row by row
-module _ {F : Type 0} (z : F) (xs : List F) (rows columns i j : ℕ) where
-  pub data_off : (rows ≤ i) ⊎ (columns ≤ j) → (s : F) → s ≡ z → s ≡ laid_out z xs rows columns i j
-  unfolding laid_out
-  data_off o s e = e ∙ sym (cond-false (ltb i rows && ltb j columns) (get_or xs (i * columns + j) z) z (off o))
-    where
-      off : (rows ≤ i) ⊎ (columns ≤ j) → (ltb i rows && ltb j columns) ≡ false
-      off (inl l) = and_left (ltb i rows) (ltb j columns) (le-ltb i rows l)
-      off (inr l) = and_right (ltb i rows) (ltb j columns) (le-ltb j columns l)
-
-  pub data_within : length xs ≡ rows * columns → i < rows → j < columns → i * columns + j < length xs
-  data_within e li lj = omega (arith, digits_lt {q = i} {m = rows} {r = j} {c = columns} li lj)
-
-  pub data_on : (s : F) → i * columns + j < length xs → s ≡ get_or xs (i * columns + j) s → i < rows → j < columns → s ≡ laid_out z xs rows columns i j
-  unfolding laid_out
-  data_on s lt e li lj = get_or_read xs (i * columns + j) s lt e z ∙ sym (cond-true (ltb i rows && ltb j columns) (get_or xs (i * columns + j) z) z (and_from (ltb i rows) (ltb j columns) (lt-ltb i rows li) (lt-ltb j columns lj)))
+-- a place of data is within the slice
+pub data_within : {F : Type 0} (xs : List F) (rows columns i j : ℕ) → length xs ≡ rows * columns → i < rows → j < columns → i * columns + j < length xs
+data_within xs rows columns i j e li lj = omega (arith, digits_lt {q = i} {m = rows} {r = j} {c = columns} li lj)

@@ -1,3 +1,2 @@
-pub mod Lists
 pub mod Checking
 pub mod Gathering

@@ -1,11 +1,12 @@
 -- Working memory as a table of symbols by place. Assumes nothing.
-use Rattle.std.specs.Prelude.{◌≡◌, ℕ, ◌+◌, ◌-◌, ◌*◌, ◌^◌, ◌<◌, Bool, cond, ◌&&◌, List, map, length, ◌==◌, nat_lt, slice_index_or}
+use Rattle.std.specs.Prelude.{◌≡◌, ℕ, ◌+◌, ◌-◌, ◌*◌, ◌^◌, ◌<◌, Bool, cond, ◌&&◌, List, map, length, nat_lt, slice_index_or}
 use Rattle.sheet.specs.declared.place.Record.{Record}
+use Rattle.sheet.specs.Places.{at, same_place}
 use Rattle.calls.specs.Reading.{blank_record}
 
 -- a record has the place (i, j)
 unfoldable pub has_place : {F : Type 0} → Record F → ℕ → ℕ → Bool
-has_place r i j = r.row == i && r.node == j
+has_place r i j = same_place r.place (at i j)
 
 -- the symbol that a record has for a place: its own, if it has the place, and else zero
 unfoldable pub symbol_for : {F : Type 0} → F → Record F → ℕ → ℕ → F
@@ -17,7 +18,7 @@ kept z memory slot i j = symbol_for z (slice_index_or memory (slot i j) (blank_r
 
 -- a record without a place: no store has the row
 unfoldable pub vacant_record : {F : Type 0} → F → Record F
-vacant_record z = record { row = 2 ^ 64 - 1; node = 0; symbol = z }
+vacant_record z = record { place = at (2 ^ 64 - 1) 0; symbol = z }
 
 -- no record of a memory has a place
 unfoldable pub Vacated : {F : Type 0} → F → List (Record F) → Type 0

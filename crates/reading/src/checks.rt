@@ -5,10 +5,11 @@ ghost use Rattle.reading.specs.Checks.{checked, probe_answer};
 
 use calls::{CallName, SheetFault, named};
 use field::NumberedField;
-use sheet::{Entry, Listing, Place};
+use sheet::{Entries, Entry, Listing, Place};
 use store::Store;
 
 // Probes a place.
+#[tactic(auto, unfolding(crate::specs::Checks::probe_answer))]
 fn probe_place<F: NumberedField, S: Store<F>>(store: &S, place: Place) -> Result<(), SheetFault>
     ensures { result ≡ probe_answer (probed (S.Store.meaning store.now) place.row place.node) }
 {
@@ -17,6 +18,7 @@ fn probe_place<F: NumberedField, S: Store<F>>(store: &S, place: Place) -> Result
 }
 
 // Probes a place of a sheet.
+#[tactic(auto, unfolding(crate::specs::Checks::checked, crate::specs::Checks::checked_next, crate::specs::Checks::probe_answer))]
 pub fn probe_entry<F: NumberedField, S: Store<F>>(
     store: &S,
     entry: Entry,
@@ -24,13 +26,11 @@ pub fn probe_entry<F: NumberedField, S: Store<F>>(
 ) -> Result<(), SheetFault>
     ensures { result ≡ checked call (S.Store.meaning store.now) (entry ∷ []) }
 {
-    match probe_place(store, entry.place) {
-        Ok(()) => Ok(()),
-        Err(fault) => Err(named(fault, call, entry.part)),
-    }
+    probe_place(store, entry.place).map_err(|fault| named(fault, call, entry.part))
 }
 
 // Probes each place of a listing up to the first that the store declines.
+#[tactic(auto, using(crate::proofs::Checking::check_pass), unfolding(crate::specs::Checks::checked))]
 pub fn check<F: NumberedField, S: Store<F>, L: Listing>(
     store: &S,
     listing: &L,
@@ -38,8 +38,8 @@ pub fn check<F: NumberedField, S: Store<F>, L: Listing>(
 ) -> Result<(), SheetFault>
     ensures { result ≡ checked call (S.Store.meaning store.now) (L.Listing.entries listing.now) }
 {
-    for i in 0..listing.len() {
-        probe_entry(store, listing.at(i), call)?;
+    for entry in Entries::of(listing) {
+        probe_entry(store, entry, call)?;
     }
     Ok(())
 }

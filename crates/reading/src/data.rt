@@ -17,6 +17,7 @@ pub struct Data<'s, F> {
 impl<F: NumberedField> Table<F> for Data<'_, F> {
     ghost held = { λ d. laid_out F.Field.ops.zero d.symbols.now d.rows d.columns };
 
+    #[tactic(auto, using(crate::proofs::Gathering::data_within), unfolding(crate::specs::Tables::laid_out))]
     fn look(&self, row: usize, node: usize) -> F {
         if row >= self.rows || node >= self.columns {
             return F::zero();

@@ -1,28 +1,25 @@
 // Reading each place of a plan once, into its slot of working memory.
 ghost use Rattle.std.specs.Prelude.{◌≡◌, [], ◌∷◌, length};
 ghost use Rattle.code.specs.Codes.{Slotted};
-ghost use Rattle.sheet.specs.Places.{at as at_place, sheet_of, places_of};
+ghost use Rattle.sheet.specs.Places.{sheet_of, places_of};
 ghost use Rattle.calls.specs.Reading.{raised, seen, symbol_at};
 ghost use Rattle.reading.specs.Tables.{kept, Vacated};
 ghost use Rattle.reading.specs.Checks.{Clear, Readable};
 
 use crate::memory::vacate;
-use crate::tables::{enter, keeps};
 use code::ReadPlan;
 use field::NumberedField;
-use sheet::Record;
+use sheet::{Entries, Place, Record};
 use store::Store;
 
 // Reads a place that is neither blank nor worn.
-pub fn read_place<F: NumberedField, S: Store<F>>(store: &mut S, row: usize, node: usize) -> F
-    requires { Readable (S.Store.meaning store.old) row node }
-    ensures answer { result ≡ symbol_at F.Field.ops.zero (S.Store.meaning store.old) row node }
-    ensures leaves { S.Store.meaning store.new ≡ raised (S.Store.meaning store.old) (at_place row node ∷ []) }
+#[tactic(auto, using(crate::proofs::Checking::probed_symbol, crate::proofs::Gathering::read_raised))]
+pub fn read_place<F: NumberedField, S: Store<F>>(store: &mut S, place: Place) -> F
+    requires { Readable (S.Store.meaning store.old) place.row place.node }
+    ensures answer { result ≡ symbol_at F.Field.ops.zero (S.Store.meaning store.old) place.row place.node }
+    ensures leaves { S.Store.meaning store.new ≡ raised (S.Store.meaning store.old) (place ∷ []) }
 {
-    match store.read(row, node) {
-        Ok(symbol) => symbol,
-        Err(_) => F::zero(),
-    }
+    store.read(place.row, place.node).unwrap_or(F::zero())
 }
 
 // Reads each place of a plan once, into its slot of a memory without a place, and counts them.
@@ -39,12 +36,12 @@ fn fill<F: NumberedField, S: Store<F>, P: ReadPlan<F>>(
     ensures table { kept F.Field.ops.zero memory.new (P.ReadPlan.slot plan.now) ≡ seen F.Field.ops.zero (S.Store.meaning store.old) (places_of (P.Listing.entries plan.now)) }
 {
     let mut count = 0;
-    for i in 0..plan.len() {
-        let place = plan.at(i).place;
+    for entry in Entries::of(plan) {
+        let place = entry.place;
         let slot = plan.slot(place.row, place.node);
-        if !keeps(memory, slot, place.row, place.node) {
-            let symbol = read_place(store, place.row, place.node);
-            enter(memory, slot, place.row, place.node, symbol);
+        if memory[slot].place != place {
+            let symbol = read_place(store, place);
+            memory[slot] = Record { place, symbol };
             count += 1;
         }
     }
@@ -52,6 +49,7 @@ fn fill<F: NumberedField, S: Store<F>, P: ReadPlan<F>>(
 }
 
 // Reads each place of a plan once, into its slot of working memory, whatever this held, and counts them.
+// Kept: store, plan and memory are lent apart, since each call says of store and memory alone what it leaves.
 pub fn gather<F: NumberedField, S: Store<F>, P: ReadPlan<F>>(
     store: &mut S,
     plan: &P,

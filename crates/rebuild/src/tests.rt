@@ -41,10 +41,7 @@ fn four(a: usize, b: usize, c: usize, d: usize) -> [Decimal; 4] {
 
 // The number of an answer's symbol, or 11.
 fn number_of(answer: Result<Decimal, RowFault>) -> usize {
-    match answer {
-        Ok(u) => u.number(),
-        Err(_) => 11,
-    }
+    answer.map_or(11, |u| u.number())
 }
 
 // Whether the row goes on with the symbols of these numbers.

@@ -1,31 +1,19 @@
 -- The symbol that comes back is the one that was taken away. Assumes nothing.
-use Rattle.std.proofs.Common.{◌≡◌, ℕ, ◌+◌, ◌-◌, ◌<◌, ◌≤◌, cond, eqb, ltb, List, map, length, get_or, take, Ok, Err, Result, sym, ap, ◌∙◌, subst, ⊎_elim, arith}
+use Rattle.std.proofs.Common.{◌≡◌, ℕ, ◌+◌, ◌<◌, ◌≤◌, ltb, List, map, length, get_or, Ok, Result, sym, ap, ◌∙◌, subst, ⊎_elim, arith}
 use Rattle.std.specs.List.{range_with_len}
-use Rattle.std.proofs.lemmas.Bool.{eq-eqb, cond-true, cond-false, lt-ltb, le-ltb, cases_lt}
-use Rattle.std.proofs.lemmas.List.FromFn.{length-map-range_with_len, get_or-map-range_with_len, take-map-range_with_len}
-use Rattle.field.specs.Decimal.{number_of, symbol_of, decimal}
+use Rattle.std.proofs.lemmas.Bool.{cond-true, cond-false, lt-ltb, le-ltb, cases_lt}
+use Rattle.std.proofs.lemmas.Simd.{map-map}
+use Rattle.std.proofs.lemmas.List.FromFn.{length-map-range_with_len, get_or-map-range_with_len}
+use Rattle.field.specs.Decimal.{symbol_of, decimal}
 use Rattle.field.specs.declared.decimal.Decimal.{Decimal}
 use Rattle.field.specs.declared.decimal.Decimal.TheVariants.{Zero}
 use Rattle.field.specs.Decimals.{decimal_laws, decimal_numbering}
 use Rattle.row.specs.Polynomial.{value}
 use Rattle.row.specs.RowRule.{stands, RowRule, Within, Different, Taken}
-use Rattle.row.specs.Answers.{symbol_answer, AnyGiveAll}
+use Rattle.row.specs.Answers.{AnyGiveAll}
 use Rattle.row.specs.declared.fault.RowFault.{RowFault}
 use Rattle.row.proofs.Rules.{rule}
 use Rattle.rebuilding.specs.Report.{symbol_in, skip, read_places, known}
-
--- what a match on an answer gives
-
-pub from_ok : (r : Result Decimal RowFault) (u v : Decimal) → r ≡ Ok u → r ≡ Ok v → u ≡ v
-from_ok r u v p q = cc
-
-pub from_err : (r : Result Decimal RowFault) (e : RowFault) (u v : Decimal) → r ≡ Err e → r ≡ Ok v → u ≡ v
-from_err r e u v p q = let z : ◌≡◌ {A = ℕ} 0 1 = cc in absurd (omega arith)
-
-pub in_row : (r : Result Decimal RowFault) (d : List Decimal) (m : ℕ) → length d ≤ 9 → m ≤ 10
-    → r ≡ symbol_answer decimal 11 symbol_of d m → r ≡ Ok (symbol_in d m)
-in_row r d m h b e =
-    e ∙ cond-false (ltb 11 (length d)) _ _ (le-ltb 11 (length d) (omega arith)) ∙ cond-true (ltb m 11) _ _ (lt-ltb m 11 (omega arith))
 
 -- the numbers 0, 1, .. with j left out
 
@@ -79,22 +67,16 @@ comes_back d j r small place any =
     get_or-map-range_with_len f 0 k l l Zero b (omega arith) ∙ known_value (skip j l) (skip_below j l k b) ∙ ap (λ t. value decimal p (stands decimal symbol_of t)) (sym (get_or_places k j l b)) in
     any d p law.exists long (length-map-range_with_len f 0 k) within different (omega arith) taken ∙ ap Ok (law.exists.values j place)
 
--- the first k of nine
-pub front : {X : Type 0} (f : ℕ → X) (xs : List X) (k : ℕ) → k ≤ 9 → xs ≡ map f (range_with_len 0 9) → take (k - 0) xs ≡ map f (range_with_len 0 k)
-front f xs k h e =
-    let z : k - 0 ≡ k = omega arith in
-    ap (take (k - 0)) e ∙ ap (λ n. take n (map f (range_with_len 0 9))) z ∙ take-map-range_with_len f 0 9 k h
+-- the symbols at the numbers that are read
+known_there : (d : List Decimal) (last : Decimal) (j : ℕ) (numbers : List ℕ) → last ≡ symbol_in d (length d) → numbers ≡ read_places (length d) j
+    → map (known d last) numbers ≡ read_symbols d j
+known_there d last j numbers is en =
+    (λ i. map (known d (is i)) (en i)) ∙ map-map (known d (symbol_in d (length d))) (skip j) (range_with_len 0 (length d))
 
 pub regains : (d : List Decimal) (last : Decimal) (j : ℕ) (numbers : List ℕ) (values : List Decimal) (r : Result Decimal RowFault)
-    → length d ≤ 9 → j < length d → last ≡ symbol_in d (length d) → numbers ≡ read_places (length d) j
-    → values ≡ map (λ i. known d last (skip j i)) (range_with_len 0 9)
-    → AnyGiveAll decimal 11 symbol_of numbers (take (length d - 0) values) j r → r ≡ Ok (get_or d j Zero)
+    → length d ≤ 9 → j < length d → last ≡ symbol_in d (length d) → numbers ≡ read_places (length d) j → values ≡ map (known d last) numbers
+    → AnyGiveAll decimal 11 symbol_of numbers values j r → r ≡ Ok (get_or d j Zero)
 regains d last j numbers values r small place is en ev any =
-    let read : take (length d - 0) values ≡ read_symbols d j
-    = front (λ i. known d last (skip j i)) values (length d) small ev ∙ ap (λ t. map (λ i. known d t (skip j i)) (range_with_len 0 (length d))) is in
     comes_back d j r small place
     (subst (λ n. AnyGiveAll decimal 11 symbol_of n (read_symbols d j) j r) en
-    (subst (λ v. AnyGiveAll decimal 11 symbol_of numbers v j r) read any))
-
-pub same_number : (u v : Decimal) → u ≡ v → ◌≡◌ {A = ℕ} (cond (eqb (number_of u) (number_of v)) 1 0) 1
-same_number u v e = cond-true (eqb (number_of u) (number_of v)) 1 0 (eq-eqb (number_of u) (number_of v) (ap number_of e))
+    (subst (λ v. AnyGiveAll decimal 11 symbol_of numbers v j r) (ev ∙ known_there d last j numbers is en) any))

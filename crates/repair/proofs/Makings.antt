@@ -31,19 +31,19 @@ module _ {A F : Type 0} (size : ℕ) (code : CodeMeaning F) (m : Meaning F) (e :
       go : (s t : Bool) → fits code m ≡ t → Ok x ≡ cond s (cond t (Ok e) (Err engine_fault.TheVariants.SmallStore)) (Err engine_fault.TheVariants.SmallField)
           → (x ≡ e) × (fits code m ≡ true) × (cond s (cond t (blank_below code.nodes m) m) m ≡ blank_below code.nodes m)
       go true true f h = (cc, f, refl)
-      go true false f h = let z : ◌≡◌ {A = ℕ} 0 1 = cc in absurd (omega arith)
-      go false t f h = let z : ◌≡◌ {A = ℕ} 0 1 = cc in absurd (omega arith)
+      go true false f h = cc
+      go false t f h = cc
 
   -- one declined on a field that is large enough: the store is too small, and nothing changed
-  pub make_err : (x : engine_fault.MakeFault) → Err x ≡ make_answer size code m e → code.field_size ≤ size → (fits code m ≡ false) × (make_leaves size code m ≡ m)
+  pub make_err : (x : engine_fault.MakeFault) → Err x ≡ make_answer size code m e → code.field_size ≤ size → (x ≡ engine_fault.TheVariants.SmallStore) × (fits code m ≡ false) × (make_leaves size code m ≡ m)
   unfolding make_answer make_leaves
   make_err x q l = go (leb code.field_size size) (le-leb code.field_size size l) (fits code m) refl q
     where
       go : (s : Bool) → s ≡ true → (t : Bool) → fits code m ≡ t → Err x ≡ cond s (cond t (Ok e) (Err engine_fault.TheVariants.SmallStore)) (Err engine_fault.TheVariants.SmallField)
-          → (fits code m ≡ false) × (cond s (cond t (blank_below code.nodes m) m) m ≡ m)
-      go false n t f h = let z : ◌≡◌ {A = ℕ} 0 1 = cc in absurd (omega arith)
-      go true n true f h = let z : ◌≡◌ {A = ℕ} 0 1 = cc in absurd (omega arith)
-      go true n false f h = (f, refl)
+          → (x ≡ engine_fault.TheVariants.SmallStore) × (fits code m ≡ false) × (cond s (cond t (blank_below code.nodes m) m) m ≡ m)
+      go false n t f h = cc
+      go true n true f h = cc
+      go true n false f h = (cc, f, refl)
 
 -- parameters that are fit for a field of this size
 pub large : (size k a tau b : ℕ) → declined_over size k a tau b ≡ None → k + a ≤ size
@@ -51,12 +51,12 @@ unfolding declined_over
 large size k a tau b e = go (declined k a tau b) e
   where
     last : (t : Bool) → ltb size (k + a) ≡ t → cond t (Some SmallField) None ≡ None → k + a ≤ size
-    last true f q = let z : ◌≡◌ {A = ℕ} 0 1 = cc in absurd (omega arith)
+    last true f q = cc
     last false f q = ltb-false size (k + a) f
 
     go : (d : Option ParameterFault) → first_fault d (cond (ltb size (k + a)) (Some SmallField) None) ≡ None → k + a ≤ size
     go None q = last (ltb size (k + a)) refl q
-    go (Some x) q = let z : ◌≡◌ {A = ℕ} 0 1 = cc in absurd (omega arith)
+    go (Some x) q = cc
 
 module _ {F : Type 0} (o : Operations F) (symbol : ℕ → F) (size k a tau b : ℕ) (m : Meaning F) (p : Parameters) (ek : p.k ≡ k) (ea : p.a ≡ a) (eb : p.b ≡ b) (fit : declined_over size k a tau b ≡ None) where
   room : fits (two_class o symbol p) m ≡ (leb k m.rows && leb (k + a + b) m.nodes)

@@ -1,5 +1,5 @@
 -- The read sheets of the two-class code, and what a mend counts. Assumes nothing.
-use Rattle.std.proofs.Common.{◌≡◌, ℕ, length, Ok, Result, refl, ap, ◌∙◌, inl, inr, arith}
+use Rattle.std.proofs.Common.{◌≡◌, ℕ, length, Ok, Result, refl, ap, ◌∙◌, inl, inr}
 use Rattle.field.specs.Laws.{Operations}
 use Rattle.store.specs.Meaning.{Meaning}
 use Rattle.code.specs.Codes.{CodeMeaning}
@@ -25,7 +25,7 @@ mend_counted {F} o size code node n r m m' s a q =
   where
     go : Outcome (mend_decline size code m node n) (mend_recipe code m node).entries (Counted (length (mend_sheet code m node))) m (mended o.zero code m node) r m' → a ≡ Counted (length (mend_sheet code m node))
     go (inl t) = let e = t.answer in cc
-    go (inr t) = let e = t.answer in let z : ◌≡◌ {A = ℕ} 0 1 = cc in absurd (omega arith)
+    go (inr t) = let e = t.answer in cc
 
 module _ {F : Type 0} (o : Operations F) (symbol : ℕ → F) (p : Parameters) where
   same_sheet : (m : Meaning F) (node : ℕ) → mend_sheet (two_class o symbol p) m node ≡ node_sheet p node

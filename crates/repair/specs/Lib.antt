@@ -1,4 +1,3 @@
 pub mod TwoClass
-pub mod Plans
 pub mod Promise
 pub mod Lawful

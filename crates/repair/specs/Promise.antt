@@ -4,6 +4,7 @@ use Rattle.field.specs.Laws.{Operations}
 use Rattle.store.specs.Meaning.{Meaning}
 use Rattle.array.specs.declared.parameters.Parameters.{Parameters}
 use Rattle.array.specs.declared.fault.ParameterFault.{ParameterFault}
+use Rattle.array.specs.declared.fault.ParameterFault.TheVariants.{SmallField}
 use Rattle.array.specs.Checks.{declined_over, fault_number}
 use Rattle.array.specs.Sheet.{node_sheet}
 use Rattle.array.specs.Theorems.{sheet_size}
@@ -14,6 +15,7 @@ use Rattle.calls.specs.Reading.{blank_below}
 use Rattle.calls.specs.Calls.{mend_sheet}
 use Rattle.calls.specs.History.{Ask, set, put, fetch, lose, refresh, mend}
 use Rattle.calls.specs.Theorem.{Begun}
+use Rattle.engine.specs.declared.make.MakeFault as engine_fault
 use Rattle.repair.specs.TwoClass.{two_class}
 use Rattle.repair.specs.declared.fault.MakeFault.{MakeFault}
 use Rattle.repair.specs.declared.fault.MakeFault.TheVariants.{Unfit, SmallStore}
@@ -23,6 +25,11 @@ use Rattle.repair.specs.declared.fault.Made.{Made}
 abbrev pub make_number : MakeFault → ℕ
 make_number (Unfit f) = fault_number f
 make_number SmallStore = 16
+
+-- a fault of the engine's making as one of the part's
+abbrev pub of_engine : engine_fault.MakeFault → MakeFault
+of_engine engine_fault.TheVariants.SmallField = Unfit SmallField
+of_engine engine_fault.TheVariants.SmallStore = SmallStore
 
 -- why a making is declined, if it is: the parameters, then a store of under k rows or n nodes
 abbrev pub store_declined : {F : Type 0} → ℕ → ℕ → ℕ → Meaning F → Option MakeFault

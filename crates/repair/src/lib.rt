@@ -10,20 +10,20 @@ ghost use Rattle.calls.specs.Theorem.{Extends};
 ghost use Rattle.repair.specs.TwoClass.{two_class};
 ghost use Rattle.repair.specs.Promise.{make_number, MakeDone, Sized, Sheets};
 
-use array::Parameters;
+use array::{Parameters, Proposed};
 use calls::{Answer, Call, CallFault};
 use engine::Engine;
 use field::{Field, NumberedField};
 use sheet::Record;
 use store::Store;
 
+mod conversions;
 mod fault;
-mod plans;
 mod two_class;
 mod types;
 
 pub use fault::{Made, MakeFault};
-pub use types::{Plan, TwoClass};
+pub use types::TwoClass;
 
 // The two-class code keeps the laws of a code.
 pub fn code_stands<F: NumberedField>() -> u8
@@ -37,6 +37,7 @@ impl MakeFault {
     pub fn number(self) -> u8
         ensures { result ≡ make_number self }
     {
+        // Kept: a fault of the parameters brings its own number.
         match self {
             MakeFault::Unfit(fault) => fault.number(),
             MakeFault::SmallStore => 16,
@@ -44,27 +45,19 @@ impl MakeFault {
     }
 }
 
-// Makes an engine with k, a, tau, b on a store: clears its nodes, and begins a history.
+// Makes an engine with the proposed parameters on a store: clears its nodes, and begins a history.
 pub fn make<F: NumberedField, S: Store<F>>(
     store: &mut S,
-    k: usize,
-    a: usize,
-    tau: usize,
-    b: usize,
+    proposed: Proposed,
 ) -> Result<Made, MakeFault>
-    ensures { MakeDone F.Field.ops (numbered_of F.Field.ops.zero F.NumberedField.symbol) F.NumberedField.size k a tau b (S.Store.meaning store.old) result (S.Store.meaning store.new) }
+    ensures { MakeDone F.Field.ops (numbered_of F.Field.ops.zero F.NumberedField.symbol) F.NumberedField.size proposed.k proposed.a proposed.tau proposed.b (S.Store.meaning store.old) result (S.Store.meaning store.new) }
 {
-    let parameters = match Parameters::check_over::<F>(k, a, tau, b) {
-        Ok(parameters) => parameters,
-        Err(fault) => return Err(MakeFault::Unfit(fault)),
-    };
-    match Engine::make(TwoClass { parameters }, store) {
-        Ok(engine) => Ok(Made {
-            engine,
-            nodes: parameters.nodes(),
-        }),
-        Err(_) => Err(MakeFault::SmallStore),
-    }
+    let parameters = Parameters::check_over::<F>(proposed)?;
+    let engine = Engine::make(TwoClass { parameters }, store)?;
+    Ok(Made {
+        engine,
+        nodes: parameters.nodes(),
+    })
 }
 
 // Serves any of the six calls on an engine and its store.

@@ -8,17 +8,20 @@ ghost use Rattle.access.proofs.Reached.{fetches};
 ghost use Rattle.access.proofs.Replacing.{puts};
 ghost use Rattle.repair.specs.Lawful.{lawful as two_class_lawful};
 
-use crate::types::{Plan, TwoClass};
+use crate::types::TwoClass;
 use access::{FetchPlan, PutPatch};
 use code::Code;
 use field::{Field, NumberedField};
 use mending::{Column, Mend};
 use store::Store;
 
+#[tactic(auto, unfolding(crate::specs::TwoClass::two_class))]
 impl<F: NumberedField> Code<F> for TwoClass {
-    type Plan = Plan;
+    type MendPlan = Mend<F>;
 
-    type Column = Column;
+    type FetchPlan = FetchPlan;
+
+    type Column = Column<F>;
 
     type Patch = PutPatch;
 
@@ -56,16 +59,16 @@ impl<F: NumberedField> Code<F> for TwoClass {
         self.parameters.k * self.parameters.k
     }
 
-    fn column(&self, node: usize) -> Column {
-        Column::new::<F>(self.parameters, node)
+    fn column(&self, node: usize) -> Column<F> {
+        Column::new(self.parameters, node)
     }
 
-    fn mend_plan<S: Store<F>>(&self, _store: &S, node: usize) -> Plan {
-        Plan::Mend(Mend::new::<F>(self.parameters, node))
+    fn mend_plan<S: Store<F>>(&self, _store: &S, node: usize) -> Mend<F> {
+        Mend::new(self.parameters, node)
     }
 
-    fn fetch_plan<S: Store<F>>(&self, _store: &S, row: usize, column: usize) -> Plan {
-        Plan::Fetch(FetchPlan::new(self.parameters, row, column))
+    fn fetch_plan<S: Store<F>>(&self, _store: &S, row: usize, column: usize) -> FetchPlan {
+        FetchPlan::new(self.parameters, row, column)
     }
 
     fn put_patch(&self, row: usize, column: usize) -> PutPatch {

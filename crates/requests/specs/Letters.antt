@@ -1,5 +1,7 @@
 -- The letters that choose a field and a store. Assumes nothing.
-use Rattle.std.specs.Prelude.{ℕ, List, codes}
+use Rattle.std.specs.Prelude.{◌≡◌, ◌≢◌, ℕ, List, Ok, Err, codes, Result}
+use Rattle.lines.specs.declared.line.LineFault.{LineFault}
+use Rattle.lines.specs.declared.line.LineFault.TheVariants.{Malformed}
 use Rattle.requests.specs.declared.request.FieldKind.{FieldKind}
 use Rattle.requests.specs.declared.request.FieldKind.TheVariants.{Decimal, Byte}
 use Rattle.requests.specs.declared.request.StoreKind.{StoreKind}
@@ -14,3 +16,8 @@ field_letter Byte = codes "b"
 abbrev pub store_letter : StoreKind → List ℕ
 store_letter Bank = codes "m"
 store_letter Image = codes "c"
+
+-- the word is the letter of the kind that is read, or it is malformed and no kind's letter
+abbrev pub Chooses : {K : Type 0} → (K → List ℕ) → List ℕ → Result K LineFault → Type 0
+Chooses letter word (Ok x) = word ≡ letter x
+Chooses {K} letter word (Err f) = (f ≡ Malformed) × ((x : K) → word ≢ letter x)

@@ -3,6 +3,7 @@
 
 ghost use Rattle.requests.specs.Reading.{Read};
 
+mod letters;
 pub mod reading;
 pub mod request;
 

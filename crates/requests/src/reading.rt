@@ -1,7 +1,6 @@
 // What the words of a session line mean: its letters and numbers.
-ghost use Rattle.std.specs.Prelude.{◌≡◌, MatchResult, ◌≢◌};
+ghost use Rattle.std.specs.Prelude.{◌≡◌, MatchResult};
 ghost use Rattle.text.specs.Numbers.{NumberWord, Spells};
-ghost use Rattle.requests.specs.Letters.{field_letter, store_letter};
 ghost use Rattle.requests.specs.Meaning.{Meaning};
 
 use crate::request::{FieldKind, Request, StoreKind};
@@ -13,38 +12,7 @@ use text::words::Word;
 fn number_in(word: Word<'_>) -> Result<usize, LineFault>
     ensures { MatchResult result (Spells word.entry.bytes.now) (λ f. (f ≡ LineFault.Malformed) × (NumberWord word.entry.bytes.now → ⊥)) }
 {
-    match number(word.bytes) {
-        Some(n) => Ok(n),
-        None => Err(LineFault::Malformed),
-    }
-}
-
-// The field that a word's one letter chooses.
-fn field_in(word: Word<'_>) -> Result<FieldKind, LineFault>
-    ensures { MatchResult result (λ x. word.entry.bytes.now ≡ field_letter x) (λ f. (f ≡ LineFault.Malformed) × ((x : FieldKind) → word.entry.bytes.now ≢ field_letter x)) }
-{
-    let [letter] = word.bytes else {
-        return Err(LineFault::Malformed);
-    };
-    match char::from(*letter) {
-        'd' => Ok(FieldKind::Decimal),
-        'b' => Ok(FieldKind::Byte),
-        _ => Err(LineFault::Malformed),
-    }
-}
-
-// The store that a word's one letter chooses.
-fn store_in(word: Word<'_>) -> Result<StoreKind, LineFault>
-    ensures { MatchResult result (λ x. word.entry.bytes.now ≡ store_letter x) (λ f. (f ≡ LineFault.Malformed) × ((x : StoreKind) → word.entry.bytes.now ≢ store_letter x)) }
-{
-    let [letter] = word.bytes else {
-        return Err(LineFault::Malformed);
-    };
-    match char::from(*letter) {
-        'm' => Ok(StoreKind::Bank),
-        'c' => Ok(StoreKind::Image),
-        _ => Err(LineFault::Malformed),
-    }
+    number(word.bytes).ok_or(LineFault::Malformed)
 }
 
 // The numbers that two words write.
@@ -67,8 +35,8 @@ pub fn read<'a>(line: SessionLine<'a>) -> Result<Request<'a>, LineFault>
             tau,
             b,
         } => {
-            let field = field_in(field)?;
-            let store = store_in(store)?;
+            let field = FieldKind::try_from(field.bytes)?;
+            let store = StoreKind::try_from(store.bytes)?;
             let (k, a) = two_numbers(k, a)?;
             let (tau, b) = two_numbers(tau, b)?;
             Ok(Request::Make {

@@ -1,6 +1,7 @@
 -- Lagrange's formula is a polynomial of degree below k that meets the k values, so it is every such polynomial's value.
 -- Assumes nothing.
 use Rattle.std.proofs.Common.{◌≡◌, ℕ, zero, suc, ◌+◌, ◌<◌, ◌≤◌, Bool, true, false, cond, eqb, List, [], ◌∷◌, length, sym, refl, ap, ◌∙◌, subst, ap₂, ⊎_elim, add-one, arith}
+use Rattle.std.proofs.lemmas.Bool.Decides.{nat_tests}
 use Rattle.std.proofs.lemmas.Bool.{eq-eqb, ne_eqb, cases_eq, cond-true, cond-false}
 use Rattle.field.specs.Laws.{Operations, FieldLaws}
 use Rattle.row.specs.Polynomial.{value}
@@ -52,11 +53,11 @@ module _ {F : Type 0} {o : Operations F} (laws : FieldLaws o) where
           r ∙ ap (λ t. v ⊗ t) d
 
   module _ (point : ℕ → F) where
-    pub factor_same : (l : ℕ) (x : F) → factor o point l x l ≡ 𝟙
-    factor_same l x = cond-true (eqb l l) 𝟙 (x ⊖ point l) (eq-eqb l l refl)
+    factor_same : (l : ℕ) (x : F) → factor o point l x l ≡ 𝟙
+    factor_same l x = grind (arith, nat_tests)
 
-    pub factor_other : (l m : ℕ) (x : F) → (m ≡ l → ⊥) → factor o point l x m ≡ x ⊖ point m
-    factor_other l m x n = cond-false (eqb m l) 𝟙 (x ⊖ point m) (ne_eqb m l n)
+    factor_other : (l m : ℕ) (x : F) → (m ≡ l → ⊥) → factor o point l x m ≡ x ⊖ point m
+    factor_other l m x n = grind (arith, nat_tests)
 
   poly_as : (k : ℕ) (f g : F → F) → ((x : F) → f x ≡ g x) → Poly o k f → Poly o k g
   poly_as k f g h (p, ep, vp) = (p, ep, λ x. vp x ∙ h x)
@@ -101,7 +102,7 @@ module _ {F : Type 0} {o : Operations F} (laws : FieldLaws o) where
       (λ d. ap (λ t. t ⊗ f n) (product_zero_at f n j (omega arith) e) ∙ zero_product laws (f n))
       (cases_eq j n)
 
-  pub product_apart_below : (f : ℕ → F) (n : ℕ) → ((m : ℕ) → m < n → f m ≡ 𝟘 → ⊥) → product_below o n f ≡ 𝟘 → ⊥
+  product_apart_below : (f : ℕ → F) (n : ℕ) → ((m : ℕ) → m < n → f m ≡ 𝟘 → ⊥) → product_below o n f ≡ 𝟘 → ⊥
   product_apart_below f zero h = one_apart laws
   product_apart_below f (suc n) h =
       product_apart laws (product_below o n f) (f n) (product_apart_below f n (λ m b. h m (omega arith))) (h n (omega arith))
@@ -124,7 +125,7 @@ module _ {F : Type 0} {o : Operations F} (laws : FieldLaws o) where
     others_zero l j h d =
         product_zero_at (factor o point l (point j)) k j h (factor_other point l j (point j) d ∙ self_difference laws (point j))
 
-    pub others_apart : (l : ℕ) → l < k → others o point k l (point l) ≡ 𝟘 → ⊥
+    others_apart : (l : ℕ) → l < k → others o point k l (point l) ≡ 𝟘 → ⊥
     others_apart l h =
         product_apart_below (factor o point l (point l)) k
         (λ m b z.
@@ -165,6 +166,15 @@ module _ {F : Type 0} {o : Operations F} (laws : FieldLaws o) where
   sum_as zero f g h = refl
   sum_as (suc n) f g h = ap₂ ◌⊕◌ (sum_as n f g (λ l b. h l (omega arith))) (h n (omega arith))
 
+  -- terms past the k-th are zero
+  pub sum_past : (f : ℕ → F) (k n : ℕ) → k ≤ n → ((l : ℕ) → l < n → k ≤ l → f l ≡ 𝟘) → sum_below o n f ≡ sum_below o k f
+  sum_past f k zero h z = let e : zero ≡ k = omega arith in ap (λ t. sum_below o t f) e
+  sum_past f k (suc n) h z =
+      ⊎_elim
+      (λ e. ap (λ t. sum_below o t f) (sym e))
+      (λ d. ap (λ t. sum_below o n f ⊕ t) (z n (omega arith) (omega arith)) ∙ sum_zero laws _ ∙ sum_past f k n (omega arith) (λ l b. z l (omega arith)))
+      (cases_eq k (suc n))
+
   -- one value changed by e changes the result by e times the basis at that place
   pub change : (point : ℕ → F) (k : ℕ) (given : ℕ → F) (j : ℕ) (e : F) (x : F) → j < k
       → interpolate o point k (λ l. cond (eqb l j) (given l ⊕ e) (given l)) x ≡ interpolate o point k given x ⊕ e ⊗ basis o point k j x
@@ -181,11 +191,10 @@ module _ {F : Type 0} {o : Operations F} (laws : FieldLaws o) where
 
   -- a turn of a loop that makes the products or the sum
   pub others_skip : (point : ℕ → F) (m l : ℕ) (x : F) → m ≡ l → others o point (m + 1) l x ≡ others o point m l x
-  others_skip point m l x e =
-      rw add-one (ap (λ t. others o point m l x ⊗ t) (subst (λ t. factor o point l x t ≡ 𝟙) (sym e) (factor_same point l x)) ∙ product_one laws _)
+  others_skip point m l x e = let p = product_one laws (others o point m l x) in rw add-one (grind (arith, nat_tests))
 
   pub others_more : (point : ℕ → F) (m l : ℕ) (x : F) → (m ≡ l → ⊥) → others o point (m + 1) l x ≡ others o point m l x ⊗ (x ⊖ point m)
-  others_more point m l x d = rw add-one (ap (λ t. others o point m l x ⊗ t) (factor_other point l m x d))
+  others_more point m l x d = rw add-one (grind (arith, nat_tests))
 
 pub sum_more : {F : Type 0} (o : Operations F) (n : ℕ) (f : ℕ → F) → sum_below o (n + 1) f ≡ o.sum (sum_below o n f) (f n)
 sum_more o n f = rw add-one refl

@@ -1,5 +1,4 @@
 pub mod Algebra
-pub mod Gap
 pub mod Lagrange
 pub mod Polynomial
 pub mod Numbers

@@ -7,8 +7,5 @@ module _ {F : Type 0} (z : F) (size : ℕ) (symbol : ℕ → Option F) (number :
   pub number_numbered : (n : ℕ) → n < size → number (numbered z symbol n) ≡ n
   number_numbered n h = let s = l.number_symbol n h in ap (λ o. number (or_else z o)) s.1 ∙ s.2
 
-  pub numbered_number : (u : F) → numbered z symbol (number u) ≡ u
-  numbered_number u = ap (or_else z) (l.symbol_number u)
-
   pub numbered_apart : (i j : ℕ) → i < size → j < size → numbered z symbol i ≡ numbered z symbol j → i ≡ j
   numbered_apart i j hi hj e = sym (number_numbered i hi) ∙ ap number e ∙ number_numbered j hj

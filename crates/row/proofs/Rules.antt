@@ -1,17 +1,20 @@
 -- The row rule's laws, for every numbered field. Assumes nothing.
-use Rattle.std.proofs.Common.{◌≡◌, ℕ, zero, suc, ◌<◌, ◌≤◌, false, cond, ◌||◌, eqb, ltb, leb, List, [], ◌∷◌, length, get_or, set, Ok, Option, Result, sym, refl, ap, ◌∙◌, subst, ⊎_elim, arith, length-set, get_or-set_other, get_or-set_same}
-use Rattle.std.proofs.lemmas.Bool.{eq-eqb, ne_eqb, lt-ltb, le-ltb, lt-leb, cases_eq, cond-true, cond-false, or_from}
-use Rattle.std.proofs.lemmas.List.FromFn.{length-map-range_with_len, get_or-map-range_with_len}
+use Rattle.std.proofs.Common.{◌≡◌, ℕ, suc, ◌<◌, ◌≤◌, false, cond, eqb, ltb, leb, List, [], ◌∷◌, map, min, length, get_or, set, Option, Result, sym, refl, ap, ◌∙◌, ⊎_elim, arith, length-set, get_or-set_other, get_or-set_same}
+use Rattle.std.proofs.lemmas.Bool.Decides.{nat_tests}
+use Rattle.std.proofs.lemmas.Bool.{ne_eqb, lt-ltb, le-ltb, lt-leb, cases_eq, cond-true, cond-false, or_from}
+use Rattle.std.proofs.lemmas.List.FromFn.{length-map-range_with_len, get_or-map-range_with_len, fill_by_all}
+use Rattle.std.proofs.lemmas.List.{get_or_past}
+use Rattle.std.specs.List.{range_with_len}
 use Rattle.field.specs.Laws.{Operations, FieldLaws, Numbering}
 use Rattle.row.specs.Polynomial.{value}
-use Rattle.row.specs.Interpolation.{Apart, sum_below, interpolate}
+use Rattle.row.specs.Interpolation.{Apart, sum_below, basis, interpolate}
 use Rattle.row.specs.RowRule.{stands, RowPolynomial, row_symbol, RowRule, Within, Different, Taken, points, rebuilt, weight_of, Replacing}
 use Rattle.row.specs.Weights.{weighed, data_weights, ServeData, listed_weight, listed_weights, ServeListed}
 use Rattle.row.specs.declared.fault.RowFault.{RowFault}
 use Rattle.row.specs.Answers.{listed, repeated, beyond, rebuild_answer, AnyGiveAll}
-use Rattle.row.proofs.Algebra.{sum_comm, sub_add, sum_zero, product_zero}
+use Rattle.row.proofs.Algebra.{sum_comm, sub_add, product_zero, zero_product}
 use Rattle.row.proofs.Polynomial.{unique_coefficients}
-use Rattle.row.proofs.Lagrange.{exists, row_rule, sum_as, change}
+use Rattle.row.proofs.Lagrange.{exists, row_rule, sum_as, sum_past, change}
 use Rattle.row.proofs.Numbers.{numbered_apart}
 
 -- different numbers below the size pass the tests
@@ -35,6 +38,21 @@ beyond_none size (n ∷ ns) h =
 
 -- weights
 
+module _ {F : Type 0} {o : Operations F} (laws : FieldLaws o) where
+  -- of k points all count
+  pub all_counted : (point : ℕ → F) (k : ℕ) (x : F) → map (λ l. cond (ltb l k) (basis o point k l x) o.zero) (range_with_len 0 k) ≡ map (λ l. basis o point k l x) (range_with_len 0 k)
+  all_counted point k x =
+      let f = λ (l : ℕ). cond (ltb l k) (basis o point k l x) o.zero in
+      fill_by_all (λ l. basis o point k l x) (map f (range_with_len 0 k)) k o.zero (length-map-range_with_len f 0 k)
+      (λ l h. get_or-map-range_with_len f 0 k l l o.zero h (omega arith) ∙ cond-true (ltb l k) _ _ (lt-ltb l k h))
+
+  -- a value that is missing adds nothing
+  pub weighed_pairs : (weights values : List F) (n : ℕ) → n ≡ min (length weights) (length values)
+      → sum_below o n (λ l. o.product (get_or values l o.zero) (get_or weights l o.zero)) ≡ weighed o weights values
+  weighed_pairs weights values n e =
+      sym (sum_past laws (λ l. o.product (get_or values l o.zero) (get_or weights l o.zero)) n (length weights) (omega arith)
+      (λ l h past. ap (λ t. o.product t (get_or weights l o.zero)) (get_or_past values l o.zero (omega arith)) ∙ zero_product laws _))
+
 module _ {F : Type 0} {o : Operations F} (laws : FieldLaws o) (symbol : ℕ → Option F) where
   pub serve_data : (k m : ℕ) → ServeData o symbol m (data_weights o symbol k m)
   serve_data k m d e =
@@ -44,15 +62,6 @@ module _ {F : Type 0} {o : Operations F} (laws : FieldLaws o) (symbol : ℕ → 
       ∙ sum_as laws k _ _ (λ l h. ap (o.product (get_or d l o.zero)) (get_or-map-range_with_len w 0 k l l o.zero h (omega arith)))
       ∙ ap (λ n. interpolate o (stands o symbol) n (λ j. get_or d j o.zero) (stands o symbol m)) (sym long)
 
-  -- terms past the k-th are zero
-  sum_past : (f : ℕ → F) (k n : ℕ) → k ≤ n → ((l : ℕ) → l < n → k ≤ l → f l ≡ o.zero) → sum_below o n f ≡ sum_below o k f
-  sum_past f k zero h z = let e : zero ≡ k = omega arith in ap (λ t. sum_below o t f) e
-  sum_past f k (suc n) h z =
-      ⊎_elim
-      (λ e. ap (λ t. sum_below o t f) (sym e))
-      (λ d. ap (λ t. o.sum (sum_below o n f) t) (z n (omega arith) (omega arith)) ∙ sum_zero laws _ ∙ sum_past f k n (omega arith) (λ l b. z l (omega arith)))
-      (cases_eq k (suc n))
-
   pub weighed_listed : (numbers : List ℕ) (m n : ℕ) → length numbers ≤ n → (values : List F)
       → weighed o (listed_weights o symbol numbers m n) values ≡ rebuilt o symbol numbers values m
   weighed_listed numbers m n h values =
@@ -61,7 +70,7 @@ module _ {F : Type 0} {o : Operations F} (laws : FieldLaws o) (symbol : ℕ → 
       let v = λ (l : ℕ). get_or values l o.zero in
       ap (λ i. sum_below o i (λ l. o.product (v l) (get_or (listed_weights o symbol numbers m n) l o.zero))) (length-map-range_with_len w 0 n)
       ∙ sum_as laws n _ (λ l. o.product (v l) (w l)) (λ l b. ap (o.product (v l)) (get_or-map-range_with_len w 0 n l l o.zero b (omega arith)))
-      ∙ sum_past (λ l. o.product (v l) (w l)) k n h
+      ∙ sum_past laws (λ l. o.product (v l) (w l)) k n h
       (λ l b c. ap (o.product (v l)) (cond-false (ltb l k) _ _ (le-ltb l k c)) ∙ product_zero laws (v l))
       ∙ sum_as laws k _ _ (λ l b. ap (o.product (v l)) (cond-true (ltb l k) _ _ (lt-ltb l k b)))
 
@@ -99,10 +108,10 @@ module _ {F : Type 0} {o : Operations F} (laws : FieldLaws o) {size : ℕ} {symb
   pub any_give_all : (numbers : List ℕ) (values : List F) (m : ℕ) (answer : Result F RowFault)
       → answer ≡ rebuild_answer o size symbol numbers values m → AnyGiveAll o size symbol numbers values m answer
   any_give_all numbers values m answer e d p r ln lv within different below taken =
-      e ∙ cond-true (eqb (length numbers) (length values)) _ _ (eq-eqb (length numbers) (length values) (ln ∙ sym lv))
-      ∙ cond-false (beyond size numbers || leb size m) _ _ (or_from (beyond size numbers) (leb size m) (beyond_none size numbers within) (lt-leb size m below))
-      ∙ cond-false (repeated numbers) _ _ (repeated_none numbers different)
-      ∙ ap Ok (rebuilds numbers values p (r.degree ∙ sym ln) within different taken m)
+      let b = beyond_none size numbers within in
+      let t = repeated_none numbers different in
+      let is = rebuilds numbers values p (r.degree ∙ sym ln) within different taken m in
+      grind (arith, nat_tests)
 
   pub serve_listed : (numbers : List ℕ) (m n : ℕ) → ServeListed o size symbol numbers m (listed_weights o symbol numbers m n)
   serve_listed numbers m n values p e long within different taken =
@@ -124,14 +133,13 @@ module _ {F : Type 0} {o : Operations F} (laws : FieldLaws o) {size : ℕ} {symb
       new : (l : ℕ) → l < length d
           → get_or (set d j v) l o.zero ≡ cond (eqb l j) (o.sum (get_or d l o.zero) (o.difference v (get_or d j o.zero))) (get_or d l o.zero)
       new l w =
-          ⊎_elim
-          (λ s. subst (λ t. get_or (set d j v) t o.zero ≡ cond (eqb t j) (o.sum (get_or d t o.zero) (o.difference v (get_or d j o.zero))) (get_or d t o.zero)) (sym s)
-          (get_or-set_same d j v o.zero h ∙ sym (cond-true (eqb j j) _ _ (eq-eqb j j refl) ∙ sum_comm laws _ _ ∙ sub_add laws v (get_or d j o.zero))))
-          (λ t. get_or-set_other d j l v o.zero t ∙ sym (cond-false (eqb l j) _ _ (ne_eqb l j t)))
-          (cases_eq l j)
+          let back = sum_comm laws (get_or d j o.zero) (o.difference v (get_or d j o.zero)) in
+          let given = sub_add laws v (get_or d j o.zero) in
+          let put = get_or-set_same d j v o.zero h in
+          ⊎_elim (λ s. grind (arith, nat_tests)) (λ t. let kept = get_or-set_other d j l v o.zero t in grind (arith, nat_tests)) (cases_eq l j)
 
-  pub replacing : (weight old new before : F) → Replacing o size symbol weight old new before (o.sum before (o.product (o.difference new old) weight))
-  replacing weight old new before d p q j m h b w was rp rq at =
+  pub replacing : (weight old new before after : F) → after ≡ o.sum before (o.product (o.difference new old) weight) → Replacing o size symbol weight old new before after
+  replacing weight old new before after is d p q j m h b w was rp rq at =
       let e = row_set d j new b m in
       let f : before ≡ row_symbol o symbol d m = at ∙ computed d p h rp m in
       let t : value o q (stands o symbol m) ≡ row_symbol o symbol (set d j new) m

@@ -1,6 +1,6 @@
 -- Lines that end in a chunk, one after another. Assumes nothing.
-use Rattle.std.proofs.Common.{◌≡◌, ℕ, zero, suc, ◌-◌, ◌<◌, ◌≤◌, min, List, [], ◌∷◌, ◌++◌, map, length, take, IfOk, Ok, Err, Result, sym, refl, ap, ◌∙◌, subst, ⊎_elim, append_assoc, append-nil, arith, MatchResult}
-use Rattle.std.proofs.lemmas.List.{take-take, take_all, length-take, length-append, map_push}
+use Rattle.std.proofs.Common.{◌≡◌, ℕ, zero, suc, ◌<◌, ◌≤◌, min, List, [], ◌∷◌, ◌++◌, map, length, take, IfOk, Ok, Err, Result, sym, refl, ap, ◌∙◌, subst, ⊎_elim, append_assoc, append-nil, arith, MatchResult}
+use Rattle.std.proofs.lemmas.List.{take-take, take_all, map_push}
 use Rattle.std.proofs.lemmas.Bool.{cases_lt}
 use Rattle.text.specs.Lines.{ended}
 use Rattle.text.specs.Parts.{Free, parts, front, final}
@@ -8,7 +8,7 @@ use Rattle.text.proofs.Laws.{parts_after, parts_one}
 use Rattle.session.specs.Runs.{Runs, Adds}
 use Rattle.session.specs.Feeding.{kept, Fed, Finished}
 use Rattle.session.proofs.Runs.{runs_none, runs_one, runs_append}
-use Rattle.session.proofs.Pieces.{front_at, final_at, free_append, free_take}
+use Rattle.session.proofs.Pieces.{front_at, final_at, free_append}
 use Rattle.session.proofs.Streams.{finished}
 
 take_cap : (k m : ℕ) (a b : List ℕ) → k ≤ m → take k (a ++ take m b) ≡ take k (a ++ b)
@@ -17,25 +17,11 @@ take_cap zero m (x ∷ a) b h = refl
 take_cap (suc k) m (x ∷ a) b h = ap (λ l. x ∷ l) (take_cap k m a b (omega arith))
 
 -- what `hold` does
-pub holds : (held more mid after : List ℕ) (n : ℕ) → n ≡ min (length more) 5001 → mid ≡ held ++ take (n - 0) more → after ≡ take 5001 mid → after ≡ kept (held ++ more)
+pub holds : (held more mid after : List ℕ) (n : ℕ) → n ≡ min (length more) 5001 → mid ≡ held ++ take n more → after ≡ take 5001 mid → after ≡ kept (held ++ more)
 holds held more mid after n is m a =
-    let same : take (n - 0) more ≡ take 5001 more =
-    ⊎_elim (λ lt. take_all (n - 0) more (omega arith) ∙ sym (take_all 5001 more (omega arith))) (λ ge. let k : n - 0 ≡ 5001 = omega arith in ap (λ j. take j more) k) (cases_lt (length more) 5001) in
+    let same : take n more ≡ take 5001 more =
+    ⊎_elim (λ lt. take_all n more (omega arith) ∙ sym (take_all 5001 more (omega arith))) (λ ge. let k : n ≡ 5001 = omega arith in ap (λ j. take j more) k) (cases_lt (length more) 5001) in
     a ∙ ap (take 5001) (m ∙ ap (λ l. held ++ l) same) ∙ take_cap 5001 5001 held more (omega arith)
-
-pub shorter : (rest front next : List ℕ) → rest ≡ front ++ 10 ∷ next → length next < length rest
-shorter rest front next e = omega (arith, ap length e, length-append front (10 ∷ next))
-
--- what is held is the start of a line, whether `hold` was refused or not
-kept_free : (held more held' : List ℕ) → Free 10 held → Free 10 more → held' ≡ kept (held ++ more) → Free 10 held'
-kept_free held more held' clean free e = subst (Free 10) (sym e) (free_take 10 5001 (held ++ more) (free_append 10 held more clean free))
-
-kept_short : (line held' : List ℕ) → held' ≡ kept line → length held' ≤ 5001
-kept_short line held' e = omega (arith, ap length e, length-take 5001 line)
-
-pub still : {X Y : Type 0} (r : Result X Y) (held more held' : List ℕ) → MatchResult r (λ _. held' ≡ kept (held ++ more)) (λ _. held' ≡ held) → Free 10 held → Free 10 more → length held ≤ 5001 → Free 10 held' × (length held' ≤ 5001)
-still (Ok x) held more held' e clean free short = (kept_free held more held' clean free e, kept_short (held ++ more) held' e)
-still (Err y) held more held' e clean free short = (subst (Free 10) (sym e) clean, subst (λ h. length h ≤ 5001) (sym e) short)
 
 -- some lines are answered, and the held bytes and the rest of the chunk are to come
 pub record Going {S : Type 0} (answers : S → List ℕ → S → List ℕ → Type 0) (held₀ chunk : List ℕ) (first : S) (held rest : List ℕ) (s : S) (bytes : List ℕ) : Type 0 where
@@ -44,9 +30,6 @@ pub record Going {S : Type 0} (answers : S → List ℕ → S → List ℕ → T
   pub runs : Runs answers (map kept done) first s bytes
 
 module _ {S : Type 0} (answers : S → List ℕ → S → List ℕ → Type 0) (held₀ chunk : List ℕ) (first : S) where
-  pub start : (out : List ℕ) → Adds out out (Going answers held₀ chunk first held₀ chunk first)
-  start out = ([], record { done = []; split = refl; runs = runs_none answers first }, sym (append-nil out))
-
   pub turn : (held rest out₀ out out' front next line held' : List ℕ) (s t : S) → Adds out₀ out (Going answers held₀ chunk first held rest s) → Free 10 held → rest ≡ front ++ 10 ∷ next → Free 10 front → line ≡ kept (held ++ front) → Adds out out' (answers s line t) → held' ≡ [] → Adds out₀ out' (Going answers held₀ chunk first held' next t)
   turn held rest out₀ out out' front next line held' s t going clean e free is said empty =
       let g = going.1 in

@@ -11,12 +11,12 @@ use Rattle.session.proofs.Runs.{runs_none, runs_append}
 use Rattle.session.proofs.Pieces.{front_append, final_append, ended_is, pre, parts_pre, parts_on, free_take, free_final, kept_front, kept_final, kept_ended}
 
 -- after the bytes seen, their closed lines are answered, and the open one is held
-record Seen {S : Type 0} (answers : S → List ℕ → S → List ℕ → Type 0) (first : S) (seen held : List ℕ) (s : S) (bytes : List ℕ) : Type 0 where
-  runs : Runs answers (map kept (closed_lines seen)) first s bytes
-  holds : held ≡ kept (open_line seen)
+pub record Seen {S : Type 0} (answers : S → List ℕ → S → List ℕ → Type 0) (first : S) (seen held : List ℕ) (s : S) (bytes : List ℕ) : Type 0 where
+  pub runs : Runs answers (map kept (closed_lines seen)) first s bytes
+  pub holds : held ≡ kept (open_line seen)
 
 module _ {S : Type 0} (answers : S → List ℕ → S → List ℕ → Type 0) (first : S) where
-  step : (seen held chunk h : List ℕ) (s t : S) (x y : List ℕ) → Seen answers first seen held s x → Fed answers held chunk s h t y → Seen answers first (seen ++ chunk) h t (x ++ y)
+  pub step : (seen held chunk h : List ℕ) (s t : S) (x y : List ℕ) → Seen answers first seen held s x → Fed answers held chunk s h t y → Seen answers first (seen ++ chunk) h t (x ++ y)
   step seen held chunk h s t x y before fed =
       let open' = open_line seen in
       let rest = parts 10 chunk in
@@ -43,15 +43,22 @@ module _ {S : Type 0} (answers : S → List ℕ → S → List ℕ → Type 0) (
       subst (λ l. Seen answers first l h t (x ++ y)) (append_assoc seen c (flat_map (λ z. z) cs))
       (subst (λ b. Seen answers first ((seen ++ c) ++ flat_map (λ z. z) cs) h t b) same rest)
 
+  -- and with the last line, all lines of the bytes seen
+  pub ends : (seen held : List ℕ) (s t : S) (x y : List ℕ) → Seen answers first seen held s x → Runs answers (ended (held ∷ [])) s t y → Runs answers (map kept (lines seen)) first t (x ++ y)
+  ends seen held s t x y before last =
+      let one : ended (held ∷ []) ≡ map kept (ended (open_line seen ∷ [])) = ap (λ l. ended (l ∷ [])) before.holds ∙ kept_ended (open_line seen) in
+      let all : map kept (lines seen) ≡ map kept (closed_lines seen) ++ map kept (ended (open_line seen ∷ [])) = ap (map kept) (ended_is (parts 10 seen) (parts_some 10 seen)) ∙ map-append kept (closed_lines seen) (ended (open_line seen ∷ [])) in
+      subst (λ l. Runs answers l first t (x ++ y)) (sym all)
+      (runs_append answers (map kept (closed_lines seen)) (map kept (ended (open_line seen ∷ []))) first s t x y before.runs (subst (λ l. Runs answers l s t y) one last))
+
+  -- before any byte
+  pub none_seen : Seen answers first [] [] first []
+  none_seen = record { runs = runs_none answers first; holds = refl }
+
 -- the last line, after any chunks that led here
 pub finished : {S : Type 0} (answers : S → List ℕ → S → List ℕ → Type 0) (held : List ℕ) (s t : S) (bytes : List ℕ) → Runs answers (ended (held ∷ [])) s t bytes → Finished answers held s t bytes
 finished answers held s t bytes last = record {
   last = last;
   whole = λ chunks first before f.
-      let input = flat_map (λ c. c) chunks in
-      let seen = steps answers first chunks [] [] held first s [] before (record { runs = runs_none answers first; holds = refl }) f in
-      let one : ended (held ∷ []) ≡ map kept (ended (open_line input ∷ [])) = ap (λ l. ended (l ∷ [])) seen.holds ∙ kept_ended (open_line input) in
-      let all : map kept (lines input) ≡ map kept (closed_lines input) ++ map kept (ended (open_line input ∷ [])) = ap (map kept) (ended_is (parts 10 input) (parts_some 10 input)) ∙ map-append kept (closed_lines input) (ended (open_line input ∷ [])) in
-      subst (λ l. Runs answers l first t (before ++ bytes)) (sym all)
-      (runs_append answers (map kept (closed_lines input)) (map kept (ended (open_line input ∷ []))) first s t before bytes seen.runs (subst (λ l. Runs answers l s t bytes) one last));
+      ends answers first (flat_map (λ c. c) chunks) held s t before bytes (steps answers first chunks [] [] held first s [] before (none_seen answers first) f) last;
 }

@@ -1,3 +1,4 @@
 pub mod Runs
 pub mod Feeding
 pub mod Stages
+pub mod Streaming

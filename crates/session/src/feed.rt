@@ -2,21 +2,12 @@
 ghost use Rattle.std.specs.Prelude.{◌≡◌, [], ◌++◌, MatchResult, OnOk};
 ghost use Rattle.session.specs.Feeding.{Fed, Finished, kept};
 ghost use Rattle.session.specs.Runs.{Adds};
+ghost use Rattle.text.specs.Parts.{Free};
 
 use crate::answerer::Answerer;
 use crate::held::Feed;
 use std::alloc::{AllocError, Global};
 use text::cut_at;
-
-// Holds more bytes of a line; where memory is short, those held stay.
-fn hold(held: &mut Vec<u8>, more: &[u8]) -> Result<(), AllocError>
-    ensures { MatchResult result (λ _. held.new.items ≡ kept (held.old.items ++ more.now)) (λ _. held.new.items ≡ held.old.items) }
-{
-    let n = more.len().min(5001);
-    held.extend_from_slice(&more[0..n])?;
-    held.truncate(5001);
-    Ok(())
-}
 
 impl Feed {
     // Before the first chunk.
@@ -25,6 +16,17 @@ impl Feed {
     {
         let held = Vec::new(heap);
         Feed { held }
+    }
+
+    // Holds more bytes of a line; where memory is short, those held stay.
+    fn hold(&mut self, more: &[u8]) -> Result<(), AllocError>
+        requires { Free 10 more.now }
+        ensures { MatchResult result (λ _. self.new.held.items ≡ kept (self.old.held.items ++ more.now)) (λ _. self.new.held.items ≡ self.old.held.items) }
+    {
+        let n = more.len().min(5001);
+        self.held.extend_from_slice(&more[..n])?;
+        self.held.truncate(5001);
+        Ok(())
     }
 
     // Answers the lines that end in `chunk`: adds the answers to `out`.
@@ -38,12 +40,12 @@ impl Feed {
     {
         let mut rest = chunk;
         while let Some((front, after)) = cut_at(rest, b'\n') {
-            hold(&mut self.held, front)?;
+            self.hold(front)?;
             answerer.answer(self.held.as_slice(), out)?;
             self.held.clear();
             rest = after;
         }
-        hold(&mut self.held, rest)
+        self.hold(rest)
     }
 
     // Answers the last line, where no line feed ended it.
@@ -51,8 +53,7 @@ impl Feed {
         ensures { OnOk result (Adds out.old.items out.new.items (Finished T.Answerer.answers self.now.held.items answerer.old answerer.new)) }
     {
         let last = self.held.as_slice();
-        let none = last.is_empty();
-        if none {
+        if last.is_empty() {
             return Ok(());
         }
         answerer.answer(last, out)

@@ -5,3 +5,4 @@ pub mod answerer;
 pub mod feed;
 pub mod held;
 pub mod stage;
+pub mod streaming;

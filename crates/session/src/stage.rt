@@ -1,6 +1,6 @@
 // What the calls before allow.
 ghost use Rattle.std.specs.Prelude.{◌≡◌};
-ghost use Rattle.session.specs.Stages.{admitted, makes};
+ghost use Rattle.session.specs.Stages.{admitted};
 
 use answers::decline::Decline;
 use requests::request::Request;
@@ -16,25 +16,9 @@ pub enum Stage {
 pub fn admit(stage: Stage, request: &Request<'_>) -> Result<(), Decline>
     ensures { result ≡ admitted stage request.now }
 {
-    let make = is_make(request);
-    match stage {
-        Stage::New => { if make { Ok(()) } else { Err(Decline::NotMade) } }
-        Stage::Made => {
-            if make {
-                Err(Decline::AlreadyMade)
-            } else {
-                Ok(())
-            }
-        }
-    }
-}
-
-// Whether a request is a make.
-fn is_make(request: &Request<'_>) -> bool
-    ensures { result ≡ makes request.now }
-{
-    match request {
-        Request::Make { .. } => true,
-        _ => false,
+    match (stage, matches!(request, Request::Make { .. })) {
+        (Stage::New, false) => Err(Decline::NotMade),
+        (Stage::Made, true) => Err(Decline::AlreadyMade),
+        _ => Ok(()),
     }
 }

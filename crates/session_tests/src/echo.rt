@@ -3,7 +3,7 @@ ghost use Rattle.std.specs.Prelude.{OnOk};
 ghost use Rattle.session.specs.Runs.{Adds};
 
 use answers::decline::Decline;
-use answers::reply::Reply;
+use answers::reply::{Accepted, Reply};
 use answers::writing::write_reply;
 use byte::Byte;
 use field::Decimal;
@@ -46,22 +46,22 @@ impl Echo {
 
 // What a request is answered, with symbols in the field in use.
 fn reply_to<S: Notation>(heap: Global, request: Request<'_>) -> Result<Reply<S>, AllocError> {
-    match request {
-        Request::Make { k, .. } => Ok(Reply::Made(k)),
+    let accepted = match request {
+        Request::Make { k, .. } => Accepted::Made(k),
         Request::Set { symbols } => match symbols_of::<S>(heap, symbols) {
-            Ok(read) => Ok(Reply::Counted(read.len())),
-            Err(SymbolFault::NotSymbol) => Ok(Reply::Declined(Decline::NotSymbol)),
-            Err(SymbolFault::Memory) => Err(AllocError),
+            Ok(read) => Accepted::Counted(read.len()),
+            Err(SymbolFault::NotSymbol) => return Ok(Err(Decline::NotSymbol)),
+            Err(SymbolFault::Memory) => return Err(AllocError),
         },
         Request::Put { row, symbol, .. } => match S::read_symbol(symbol.bytes) {
-            Some(read) => Ok(Reply::Fetched(row, read)),
-            None => Ok(Reply::Declined(Decline::NotSymbol)),
+            Some(read) => Accepted::Fetched(row, read),
+            None => return Ok(Err(Decline::NotSymbol)),
         },
-        Request::Fetch { row, .. } => Ok(Reply::Counted(row)),
-        Request::Lose { .. } => Ok(Reply::Cleared(7)),
-        Request::Refresh { node } => Ok(Reply::Counted(node)),
-        Request::Mend { node } => Ok(Reply::Counted(node)),
-    }
+        Request::Fetch { row, .. } => Accepted::Counted(row),
+        Request::Lose { .. } => Accepted::Cleared(7),
+        Request::Refresh { node } | Request::Mend { node } => Accepted::Counted(node),
+    };
+    Ok(Ok(accepted))
 }
 
 fn answer_in<S: Notation>(
@@ -80,7 +80,7 @@ impl Answerer for Echo {
 
     fn answer(&mut self, line: &[u8], out: &mut Vec<u8>) -> Result<(), AllocError> {
         match self.judged(line) {
-            Err(decline) => write_reply(Reply::<Decimal>::Declined(decline), out),
+            Err(decline) => write_reply::<Decimal>(Err(decline), out),
             Ok(request) => match self.field {
                 FieldKind::Decimal => answer_in::<Decimal>(self.heap, request, out),
                 FieldKind::Byte => answer_in::<Byte>(self.heap, request, out),

@@ -25,12 +25,9 @@ fn answered(heap: Global, input: &[u8], size: usize) -> Result<Vec<u8>, AllocErr
     let mut echo = Echo::new(heap);
     let mut feed = Feed::new(heap);
     let mut out = Vec::new(heap);
-    let mut rest = input;
-    while rest.len() > size {
-        feed.feed(&mut echo, &rest[0..size], &mut out)?;
-        rest = &rest[size..];
+    for chunk in input.chunks(size) {
+        feed.feed(&mut echo, chunk, &mut out)?;
     }
-    feed.feed(&mut echo, rest, &mut out)?;
     feed.finish(&mut echo, &mut out)?;
     Ok(out)
 }

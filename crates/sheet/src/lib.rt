@@ -5,8 +5,11 @@ ghost use Rattle.std.specs.Prelude.{◌≡◌, ℕ, ◌<◌, List, length, slice
 ghost use Rattle.sheet.specs.Parts.{part_number};
 ghost use Rattle.sheet.specs.declared.place.Entry.{Entry as Listed};
 
+mod entries;
+mod order;
 mod place;
 
+pub use entries::Entries;
 pub use place::{Entry, Part, Place, Record};
 
 impl Part {
@@ -14,12 +17,7 @@ impl Part {
     pub fn number(self) -> u8
         ensures { result ≡ part_number self }
     {
-        match self {
-            Part::First => 1,
-            Part::Second => 2,
-            Part::Third => 3,
-            Part::Fourth => 4,
-        }
+        self as u8
     }
 }
 

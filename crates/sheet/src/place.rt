@@ -8,10 +8,10 @@ pub struct Place {
 // The parts of a read sheet. Only a data node's mend has more than the first.
 #[derive(Clone, Copy, PartialEq, Eq)]
 pub enum Part {
-    First,
-    Second,
-    Third,
-    Fourth,
+    First = 1,
+    Second = 2,
+    Third = 3,
+    Fourth = 4,
 }
 
 // A place of a listing, and the part of the listing that it stands in.
@@ -24,7 +24,6 @@ pub struct Entry {
 // A symbol that was read, with its place: a record of working memory.
 #[derive(Clone, Copy)]
 pub struct Record<F> {
-    pub row: usize,
-    pub node: usize,
+    pub place: Place,
     pub symbol: F,
 }

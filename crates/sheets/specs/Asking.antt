@@ -17,7 +17,7 @@ SpellsAll (w ∷ ws) (n ∷ ns) = Spells w n × SpellsAll ws ns
 
 -- the words of a line write k, a, τ, b and the node
 abbrev pub Writes : List Placed → Asked → Type 0
-Writes ws q = SpellsAll (texts ws) (q.k ∷ q.a ∷ q.tau ∷ q.b ∷ q.node ∷ [])
+Writes ws q = SpellsAll (texts ws) (q.proposed.k ∷ q.proposed.a ∷ q.proposed.tau ∷ q.proposed.b ∷ q.node ∷ [])
 
 -- what the words of a line ask for
 abbrev pub Read : List Placed → Result Asked AskFault → Type 0
@@ -30,12 +30,12 @@ Read ws (Err Node) = ⊥
 -- and what is answered
 abbrev pub Answered : List ℕ → Result NodeSheet AskFault → Type 0
 Answered line (Ok s) =
-    (q : Asked) × Writes (words line) q × (declined q.k q.a q.tau q.b ≡ None)
-    × (s.parameters.k ≡ q.k) × (s.parameters.a ≡ q.a) × (s.parameters.tau ≡ q.tau) × (s.parameters.b ≡ q.b) × (s.node ≡ q.node)
+    (q : Asked) × Writes (words line) q × (declined q.proposed.k q.proposed.a q.proposed.tau q.proposed.b ≡ None)
+    × (s.parameters.k ≡ q.proposed.k) × (s.parameters.a ≡ q.proposed.a) × (s.parameters.tau ≡ q.proposed.tau) × (s.parameters.b ≡ q.proposed.b) × (s.node ≡ q.node)
 Answered line (Err Words) = length (words line) ≡ 5 → ⊥
 Answered line (Err Number) = (length (words line) ≡ 5) × ((q : Asked) → Writes (words line) q → ⊥)
-Answered line (Err (Code f)) = (q : Asked) × Writes (words line) q × (declined q.k q.a q.tau q.b ≡ Some f)
-Answered line (Err Node) = (q : Asked) × Writes (words line) q × (declined q.k q.a q.tau q.b ≡ None) × (q.k + q.a + q.b ≤ q.node)
+Answered line (Err (Code f)) = (q : Asked) × Writes (words line) q × (declined q.proposed.k q.proposed.a q.proposed.tau q.proposed.b ≡ Some f)
+Answered line (Err Node) = (q : Asked) × Writes (words line) q × (declined q.proposed.k q.proposed.a q.proposed.tau q.proposed.b ≡ None) × (q.proposed.k + q.proposed.a + q.proposed.b ≤ q.node)
 
 -- the numbers of the refusals
 abbrev pub ask_number : AskFault → ℕ

@@ -18,7 +18,7 @@ fn main(rt: HostRuntime) -> io::Result<()> {
         out.clear();
         match ask(line) {
             Ok(sheet) => push_sheet(&mut out, sheet)?,
-            Err(fault) => push_decline(&mut out, fault.number())?,
+            Err(fault) => push_decline(&mut out, fault)?,
         }
         rt.stdout().write_all(out.as_slice())?;
     }

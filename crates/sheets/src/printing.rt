@@ -1,46 +1,31 @@
 // Sheets and refusals as text.
+use crate::asking::AskFault;
 use mending::NodeSheet;
-use sheet::{Listing, Place};
-use std::alloc::AllocError;
-use text::numbers::push_number;
-
-// Whether two places are one.
-fn same(first: Place, second: Place) -> bool {
-    first.row == second.row && first.node == second.node
-}
+use sheet::{Entries, Place};
+use std::io;
+use std::io::Write;
 
 // Whether one of the first `n` places of a sheet's listing is this one.
 fn listed_before(sheet: NodeSheet, n: usize, place: Place) -> bool {
-    for i in 0..n {
-        if i < sheet.len() && same(sheet.at(i).place, place) {
-            return true;
-        }
-    }
-    false
+    Entries::of(&sheet)
+        .take(n)
+        .any(|entry| entry.place == place)
 }
 
 // How many places a sheet has: a place already listed is skipped.
 fn count(sheet: NodeSheet) -> usize {
-    let mut n = 0usize;
-    for i in 0..sheet.len() {
-        if !listed_before(sheet, i, sheet.at(i).place) {
-            n += 1;
-        }
-    }
-    n
+    Entries::of(&sheet)
+        .enumerate()
+        .filter(|(i, entry)| !listed_before(sheet, *i, entry.place))
+        .count()
 }
 
 // Adds a line of a part, a row and a node for each place of a sheet.
-fn push_places(out: &mut Vec<u8>, sheet: NodeSheet) -> Result<(), AllocError> {
-    for i in 0..sheet.len() {
-        let entry = sheet.at(i);
+fn push_places(out: &mut Vec<u8>, sheet: NodeSheet) -> io::Result<()> {
+    for (i, entry) in Entries::of(&sheet).enumerate() {
+        let Place { row, node } = entry.place;
         if !listed_before(sheet, i, entry.place) {
-            push_number(out, usize::from(entry.part.number()))?;
-            out.push(b'\t')?;
-            push_number(out, entry.place.row)?;
-            out.push(b'\t')?;
-            push_number(out, entry.place.node)?;
-            out.push(b'\n')?;
+            writeln!(out, "{}\t{row}\t{node}", entry.part.number())?;
         }
     }
     Ok(())
@@ -50,7 +35,7 @@ fn push_places(out: &mut Vec<u8>, sheet: NodeSheet) -> Result<(), AllocError> {
 fn mark(sheet: NodeSheet, place: Place) -> u8 {
     if place.node == sheet.node() {
         b'x'
-    } else if listed_before(sheet, sheet.len(), place) {
+    } else if Entries::of(&sheet).any(|entry| entry.place == place) {
         b'R'
     } else {
         b'.'
@@ -58,31 +43,24 @@ fn mark(sheet: NodeSheet, place: Place) -> u8 {
 }
 
 // Adds a row of the picture.
-fn push_row(out: &mut Vec<u8>, sheet: NodeSheet, row: usize) -> Result<(), AllocError> {
+fn push_row(out: &mut Vec<u8>, sheet: NodeSheet, row: usize) -> io::Result<()> {
     for node in 0..sheet.parameters().nodes() {
         out.push(mark(sheet, Place { row, node }))?;
     }
-    out.push(b'\n')?;
-    Ok(())
+    writeln!(out)
 }
 
 // Adds a sheet: its size, its places in order, and a picture of the array.
-pub fn push_sheet(out: &mut Vec<u8>, sheet: NodeSheet) -> Result<(), AllocError> {
-    out.extend_from_slice(b"places\t")?;
-    push_number(out, count(sheet))?;
-    out.push(b'\n')?;
+pub fn push_sheet(out: &mut Vec<u8>, sheet: NodeSheet) -> io::Result<()> {
+    writeln!(out, "places\t{}", count(sheet))?;
     push_places(out, sheet)?;
     for row in 0..sheet.parameters().k {
         push_row(out, sheet, row)?;
     }
-    out.push(b'\n')?;
-    Ok(())
+    writeln!(out)
 }
 
 // Adds a refusal.
-pub fn push_decline(out: &mut Vec<u8>, number: u8) -> Result<(), AllocError> {
-    out.extend_from_slice(b"no\t")?;
-    push_number(out, usize::from(number))?;
-    out.push(b'\n')?;
-    Ok(())
+pub fn push_decline(out: &mut Vec<u8>, fault: AskFault) -> io::Result<()> {
+    writeln!(out, "no\t{}", fault.number())
 }

@@ -4,6 +4,7 @@
 ghost use Rattle.std.specs.Prelude.{◌≡◌, true, is_err};
 ghost use Rattle.store.specs.Meaning.{Meaning, Sound, number_of, judged as judges, probed, metered, placed, summed, read as reads, written, refreshed, cleared};
 ghost use Rattle.store.specs.Fit.{Checked, unfit_number};
+ghost use Rattle.store.specs.Laid.{found};
 
 use field::NumberedField;
 
@@ -18,14 +19,12 @@ impl Shape {
     pub fn check(each: u8, rows: usize, nodes: usize, memory: usize) -> Result<Shape, Unfit>
         ensures { Checked each rows nodes memory result }
     {
-        if rows < 1 || rows > 32 || nodes < 1 || nodes > 93 {
-            return Err(Unfit {
-                rows,
-                nodes,
-                memory,
-            });
-        }
-        if usize::from(each) * (rows * nodes) > memory {
+        if rows < 1
+            || rows > 32
+            || nodes < 1
+            || nodes > 93
+            || usize::from(each) * (rows * nodes) > memory
+        {
             return Err(Unfit {
                 rows,
                 nodes,
@@ -33,6 +32,20 @@ impl Shape {
             });
         }
         Ok(Shape { rows, nodes })
+    }
+
+    // Where a place lies, if it is on the store.
+    pub fn spot(self, row: usize, node: usize) -> Result<usize, StoreFault>
+        ensures { result ≡ found self.rows self.nodes row node }
+    {
+        if row >= self.rows || node >= self.nodes {
+            return Err(StoreFault {
+                row,
+                node,
+                cause: Cause::OffStore,
+            });
+        }
+        Ok(self.rows * node + row)
     }
 }
 
@@ -50,11 +63,7 @@ impl Cause {
     pub fn number(self) -> u8
         ensures { result ≡ number_of self }
     {
-        match self {
-            Cause::OffStore => 1,
-            Cause::Blank => 2,
-            Cause::Worn => 3,
-        }
+        self as u8
     }
 }
 
@@ -62,9 +71,6 @@ impl Cause {
 pub trait Store<F: NumberedField> {
     // What the store means now.
     ghost meaning: { Self → Meaning F };
-
-    // What it means is within the bounds of every store.
-    ghost sound: { (s : Self) → Sound (meaning s) };
 
     // How many rows it has.
     fn rows(&self) -> usize
@@ -109,6 +115,9 @@ pub trait Store<F: NumberedField> {
         ensures answers { result ≡ summed (meaning self.old) node }
         ensures leaves { meaning self.new ≡ refreshed (meaning self.old) node }
         ensures declined { is_err result ≡ true → meaning self.new ≡ meaning self.old };
+
+    // What it means is within the bounds of every store.
+    ghost sound: { (s : Self) → Sound (meaning s) };
 }
 
 // What a place on the store answers, by what it holds and its meter.
@@ -121,22 +130,10 @@ pub fn judged<F: NumberedField>(
 ) -> Result<F, StoreFault>
     ensures { result ≡ judges held meter life row node }
 {
-    match held {
-        None => Err(StoreFault {
-            row,
-            node,
-            cause: Cause::Blank,
-        }),
-        Some(x) => {
-            if meter == life {
-                Err(StoreFault {
-                    row,
-                    node,
-                    cause: Cause::Worn,
-                })
-            } else {
-                Ok(x)
-            }
-        }
-    }
+    let cause = match held {
+        Some(x) if meter != life => return Ok(x),
+        Some(_) => Cause::Worn,
+        None => Cause::Blank,
+    };
+    Err(StoreFault { row, node, cause })
 }

@@ -1,32 +1,17 @@
 // Every way in which rows, nodes and memory do not make a store of 12 places, and one in which they do.
 use crate::said::checked;
-use bank::{Bank, Cell};
-use field::NumberedField;
-use image::CardImage;
 use std::io;
+use store::{Shape, Unfit};
 
-fn bank_bounds<F: NumberedField>(rt: &HostRuntime, memory: &[Cell<F>]) -> io::Result<()> {
-    checked(rt, "check 0 4", Bank::check(memory, 0, 4))?;
-    checked(rt, "check 33 1", Bank::check(memory, 33, 1))?;
-    checked(rt, "check 3 0", Bank::check(memory, 3, 0))?;
-    checked(rt, "check 1 94", Bank::check(memory, 1, 94))
-}
-
-pub fn bank_checks<F: NumberedField>(rt: &HostRuntime, memory: &[Cell<F>]) -> io::Result<()> {
-    bank_bounds(rt, memory)?;
-    checked(rt, "check 4 4", Bank::check(memory, 4, 4))?;
-    checked(rt, "check 3 4", Bank::check(memory, 3, 4))
-}
-
-fn image_bounds<F: NumberedField>(rt: &HostRuntime, memory: &[u8]) -> io::Result<()> {
-    checked(rt, "check 0 4", CardImage::<F>::check(memory, 0, 4))?;
-    checked(rt, "check 33 1", CardImage::<F>::check(memory, 33, 1))?;
-    checked(rt, "check 3 0", CardImage::<F>::check(memory, 3, 0))?;
-    checked(rt, "check 1 94", CardImage::<F>::check(memory, 1, 94))
-}
-
-pub fn image_checks<F: NumberedField>(rt: &HostRuntime, memory: &[u8]) -> io::Result<()> {
-    image_bounds::<F>(rt, memory)?;
-    checked(rt, "check 4 4", CardImage::<F>::check(memory, 4, 4))?;
-    checked(rt, "check 3 4", CardImage::<F>::check(memory, 3, 4))
+// Each check of a store's memory.
+pub fn checks<C: Fn(usize, usize) -> Result<Shape, Unfit>>(
+    rt: &HostRuntime,
+    check: C,
+) -> io::Result<()>
+    requires { C.IsAlwaysCallable check }
+{
+    for (rows, nodes) in [(0, 4), (33, 1), (3, 0), (1, 94), (4, 4), (3, 4)] {
+        checked(rt, rows, nodes, check(rows, nodes))?;
+    }
+    Ok(())
 }

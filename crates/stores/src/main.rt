@@ -13,14 +13,21 @@ mod copies;
 mod said;
 mod walk;
 
-use checks::{bank_checks, image_checks};
+use checks::checks;
 use copies::copies;
 use said::answered;
 use walk::walk;
 
 // A bank in the memory, made and opened again.
-fn bank<F: NumberedField>(rt: &HostRuntime, memory: &mut [Cell<F>], x: F, y: F) -> io::Result<()> {
-    bank_checks(rt, memory)?;
+fn bank<F: NumberedField>(
+    rt: &HostRuntime,
+    symbols: &str,
+    memory: &mut [Cell<F>],
+    x: F,
+    y: F,
+) -> io::Result<()> {
+    println!(rt; "memory bank, {symbols} symbols")?;
+    checks(rt, |rows, nodes| Bank::check(memory, rows, nodes))?;
     if let Ok(shape) = Bank::check(memory, 3, 4) {
         let mut made = Bank::make(memory, shape);
         walk(rt, &mut made, x, y)?;
@@ -29,79 +36,49 @@ fn bank<F: NumberedField>(rt: &HostRuntime, memory: &mut [Cell<F>], x: F, y: F) 
         let opened = Bank::open(memory, shape);
         answered(rt, "opened, probe 0 0", opened.probe(0, 0))?;
     }
+    if let Some(last) = memory.last() {
+        let beyond = last.meter;
+        println!(rt; "beyond: {beyond}")?;
+    }
     Ok(())
 }
 
-fn decimal_bank(rt: &HostRuntime) -> io::Result<()> {
-    println!(rt; "memory bank, decimal symbols")?;
-    let mut memory = [Cell {
-        symbol: Some(Decimal::Nine),
-        meter: 7,
-    }; 13];
-    bank(rt, &mut memory, Decimal::Three, Decimal::Ten)?;
-    let beyond = memory[12].meter;
-    println!(rt; "beyond: {beyond}")
-}
+// Kept: a function beside `bank`, since no call of a store makes or opens one, and each lies in memory of its own kind.
 
-fn byte_bank(rt: &HostRuntime) -> io::Result<()> {
-    println!(rt; "memory bank, byte symbols")?;
-    let mut memory = [Cell {
-        symbol: Some(Byte::new(9)),
-        meter: 7,
-    }; 13];
-    bank(rt, &mut memory, Byte::new(77), Byte::new(255))?;
-    let beyond = memory[12].meter;
-    println!(rt; "beyond: {beyond}")
-}
-
-// A card image of decimal symbols in the memory, made and opened again.
-fn decimal_card(rt: &HostRuntime, memory: &mut [u8]) -> io::Result<()> {
-    image_checks::<Decimal>(rt, memory)?;
-    if let Ok(shape) = CardImage::<Decimal>::check(memory, 3, 4) {
-        let mut made = CardImage::<Decimal>::make(memory, shape);
-        walk(rt, &mut made, Decimal::Three, Decimal::Ten)?;
+// A card image in 49 bytes, made and opened again.
+fn card<F: NumberedField>(rt: &HostRuntime, symbols: &str, x: F, y: F) -> io::Result<()> {
+    println!(rt; "card image, {symbols} symbols")?;
+    let mut memory = [9u8; 49];
+    checks(
+        rt,
+        |rows, nodes| CardImage::<F>::check(&memory, rows, nodes),
+    )?;
+    if let Ok(shape) = CardImage::<F>::check(&memory, 3, 4) {
+        let mut made = CardImage::<F>::make(&mut memory, shape);
+        walk(rt, &mut made, x, y)?;
     }
-    if let Ok(shape) = CardImage::<Decimal>::check(memory, 3, 4) {
-        let opened = CardImage::<Decimal>::open(memory, shape);
+    if let Ok(shape) = CardImage::<F>::check(&memory, 3, 4) {
+        let opened = CardImage::<F>::open(&mut memory, shape);
         answered(rt, "opened, probe 0 0", opened.probe(0, 0))?;
     }
-    Ok(())
-}
-
-fn decimal_image(rt: &HostRuntime) -> io::Result<()> {
-    println!(rt; "card image, decimal symbols")?;
-    let mut memory = [9u8; 49];
-    decimal_card(rt, &mut memory)?;
     let beyond = memory[48];
     println!(rt; "beyond: {beyond}")
 }
 
-// A card image of byte symbols in the memory, made and opened again.
-fn byte_card(rt: &HostRuntime, memory: &mut [u8]) -> io::Result<()> {
-    image_checks::<Byte>(rt, memory)?;
-    if let Ok(shape) = CardImage::<Byte>::check(memory, 3, 4) {
-        let mut made = CardImage::<Byte>::make(memory, shape);
-        walk(rt, &mut made, Byte::new(77), Byte::new(255))?;
+// A cell that holds a symbol and has been read seven times.
+fn read_seven_times<F: NumberedField>(x: F) -> Cell<F> {
+    Cell {
+        symbol: Some(x),
+        meter: 7,
     }
-    if let Ok(shape) = CardImage::<Byte>::check(memory, 3, 4) {
-        let opened = CardImage::<Byte>::open(memory, shape);
-        answered(rt, "opened, probe 0 0", opened.probe(0, 0))?;
-    }
-    Ok(())
-}
-
-fn byte_image(rt: &HostRuntime) -> io::Result<()> {
-    println!(rt; "card image, byte symbols")?;
-    let mut memory = [9u8; 49];
-    byte_card(rt, &mut memory)?;
-    let beyond = memory[48];
-    println!(rt; "beyond: {beyond}")
 }
 
 fn main(rt: HostRuntime) -> io::Result<()> {
-    decimal_bank(&rt)?;
-    byte_bank(&rt)?;
-    decimal_image(&rt)?;
-    byte_image(&rt)?;
+    let mut decimals = [read_seven_times(Decimal::Nine); 13];
+    bank(&rt, "decimal", &mut decimals, Decimal::Three, Decimal::Ten)?;
+    let mut bytes = [read_seven_times(Byte::new(9)); 13];
+    bank(&rt, "byte", &mut bytes, Byte::new(77), Byte::new(255))?;
+    card(&rt, "decimal", Decimal::Three, Decimal::Ten)?;
+    card(&rt, "byte", Byte::new(77), Byte::new(255))?;
     copies(&rt)
 }

@@ -5,6 +5,7 @@ use std::io;
 use store::{Shape, StoreFault, Unfit};
 
 // A fault: the number of its cause, and its place.
+// Kept: the words are this program's, and another program prints the number alone.
 fn fault(rt: &HostRuntime, call: &str, f: StoreFault) -> io::Result<()> {
     let number = f.cause.number();
     let row = f.row;
@@ -13,13 +14,33 @@ fn fault(rt: &HostRuntime, call: &str, f: StoreFault) -> io::Result<()> {
 }
 
 // A check of rows, nodes and memory.
-pub fn checked(rt: &HostRuntime, call: &str, r: Result<Shape, Unfit>) -> io::Result<()> {
+pub fn checked(
+    rt: &HostRuntime,
+    rows: usize,
+    nodes: usize,
+    r: Result<Shape, Unfit>,
+) -> io::Result<()> {
     match r {
-        Ok(_) => println!(rt; "{call}: passed"),
+        Ok(_) => println!(rt; "check {rows} {nodes}: passed"),
         Err(f) => {
             let number = f.number();
-            println!(rt; "{call}: no {number}")
+            println!(rt; "check {rows} {nodes}: no {number}")
         }
+    }
+}
+
+// What a call on the store answered, which `print` prints, or its fault.
+fn told<T, P: FnOnce(T) -> io::Result<()>>(
+    rt: &HostRuntime,
+    call: &str,
+    r: Result<T, StoreFault>,
+    print: P,
+) -> io::Result<()>
+    requires { P.IsAlwaysCallable print }
+{
+    match r {
+        Ok(x) => print(x),
+        Err(f) => fault(rt, call, f),
     }
 }
 
@@ -29,37 +50,25 @@ pub fn answered<F: NumberedField>(
     call: &str,
     r: Result<F, StoreFault>,
 ) -> io::Result<()> {
-    match r {
-        Ok(x) => {
-            let number = x.number();
-            println!(rt; "{call}: symbol {number}")
-        }
-        Err(f) => fault(rt, call, f),
-    }
+    told(rt, call, r, |x| {
+        let number = x.number();
+        println!(rt; "{call}: symbol {number}")
+    })
 }
 
 // A meter.
 pub fn metered(rt: &HostRuntime, call: &str, r: Result<u16, StoreFault>) -> io::Result<()> {
-    match r {
-        Ok(n) => println!(rt; "{call}: {n}"),
-        Err(f) => fault(rt, call, f),
-    }
+    told(rt, call, r, |n| println!(rt; "{call}: {n}"))
 }
 
 // A write.
 pub fn placed(rt: &HostRuntime, call: &str, r: Result<(), StoreFault>) -> io::Result<()> {
-    match r {
-        Ok(_) => println!(rt; "{call}: done"),
-        Err(f) => fault(rt, call, f),
-    }
+    told(rt, call, r, |_| println!(rt; "{call}: done"))
 }
 
 // A clear or a refresh.
 pub fn summed(rt: &HostRuntime, call: &str, r: Result<u32, StoreFault>) -> io::Result<()> {
-    match r {
-        Ok(n) => println!(rt; "{call}: {n} reads"),
-        Err(f) => fault(rt, call, f),
-    }
+    told(rt, call, r, |n| println!(rt; "{call}: {n} reads"))
 }
 
 // A copy of a node.

@@ -4,6 +4,7 @@ use field::NumberedField;
 use std::io;
 use store::Store;
 
+// Kept: `rt` is the handle that each function that prints is given, and the store is lent beside it.
 fn sizes<F: NumberedField, S: Store<F>>(rt: &HostRuntime, s: &S) -> io::Result<()> {
     let rows = s.rows();
     let nodes = s.nodes();

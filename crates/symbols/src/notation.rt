@@ -5,6 +5,7 @@ ghost use Rattle.symbols.specs.Spelling.{decimal_apart, byte_apart};
 
 use byte::Byte;
 use field::{Decimal, NumberedField};
+use row_text::{glyph, symbol_of};
 use std::alloc::AllocError;
 use text::numbers::{number, push_number};
 
@@ -34,23 +35,11 @@ impl Notation for Decimal {
         let [letter] = word else {
             return None;
         };
-        match char::from(*letter) {
-            '0'..='9' => {
-                let digit = usize::from(*letter - b'0');
-                Decimal::symbol(digit)
-            }
-            'X' => Some(Decimal::Ten),
-            _ => None,
-        }
+        symbol_of(*letter)
     }
 
     fn write_symbol(self, out: &mut Vec<u8>) -> Result<(), AllocError> {
-        let n = self.number();
-        if n < 10 {
-            push_number(out, n)?;
-        } else {
-            out.push(b'X')?;
-        }
+        out.push(glyph(self))?;
         Ok(())
     }
 }
@@ -61,19 +50,10 @@ impl Notation for Byte {
     ghost apart = { byte_apart };
 
     fn read_symbol(word: &[u8]) -> Option<Byte> {
-        match number(word) {
-            Some(n) => {
-                if n < 256 {
-                    Some(Byte::new(n as u8))
-                } else {
-                    None
-                }
-            }
-            None => None,
-        }
+        Byte::symbol(number(word)?)
     }
 
     fn write_symbol(self, out: &mut Vec<u8>) -> Result<(), AllocError> {
-        push_number(out, usize::from(self.value()))
+        push_number(out, self.number())
     }
 }

@@ -29,10 +29,8 @@ pub fn symbols_of<S: Notation>(heap: Global, words: Words<'_>) -> Result<Vec<S>,
 {
     let mut out = Vec::new(heap);
     for word in words {
-        match S::read_symbol(word.bytes) {
-            Some(symbol) => out.push(symbol)?,
-            None => return Err(SymbolFault::NotSymbol),
-        }
+        let symbol = S::read_symbol(word.bytes).ok_or(SymbolFault::NotSymbol)?;
+        out.push(symbol)?;
     }
     Ok(out)
 }

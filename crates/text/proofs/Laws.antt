@@ -1,11 +1,14 @@
 -- The laws of parts, lines and words. Assumes nothing.
-use Rattle.std.proofs.Common.{◌≡◌, ℕ, zero, suc, ◌+◌, ◌<◌, eqb, ◌⊎◌, List, [], ◌∷◌, ◌++◌, length, take, sym, refl, ap, ◌∙◌, subst, inl, inr, ⊎_elim, append_assoc, append-nil, arith}
+use Rattle.std.proofs.Common.{◌≡◌, ℕ, zero, suc, ◌+◌, ◌<◌, Bool, true, false, not, eqb, ◌⊎◌, List, [], ◌∷◌, ◌++◌, length, take, Some, None, Option, sym, refl, ap, ◌∙◌, subst, inl, inr, ⊎_elim, append_assoc, append-nil, arith}
+use Rattle.std.specs.Borrow.{Bor}
+use Rattle.std.specs.Option.{is_some}
 use Rattle.std.specs.List.{flat_map, AllByRecursion}
 use Rattle.std.proofs.ByRecursion.{All-push}
 use Rattle.std.proofs.lemmas.List.{append_cancel_right, length-append, length-map}
 use Rattle.std.proofs.lemmas.Bool.{cond_both, cond-true, cond-false, eqb-true, eqb-false, eq-eqb, ne_eqb}
 use Rattle.text.specs.Lines.{ended}
 use Rattle.text.specs.Parts.{Free, onto, parts, joined_by, final}
+use Rattle.text.specs.Walk.{to_come}
 use Rattle.text.specs.Words.{placed, words, texts, column_of}
 use Rattle.text.specs.Cutting.{closed, LineCut, Worded, WordCut}
 use Rattle.text.proofs.Cuts.{parts_some}
@@ -54,6 +57,10 @@ parts_after c (b ∷ p) rest h =
 pub parts_one : (c : ℕ) (p : List ℕ) → Free c p → parts c p ≡ p ∷ []
 parts_one c [] h = refl
 parts_one c (b ∷ p) h = cond-false (eqb b c) _ _ (ne_eqb b c (h 0 (omega arith))) ∙ ap (onto b) (parts_one c p (λ k l. h (suc k) (omega arith)))
+
+-- the first part of bytes that are cut at their first separator
+pub cut_part : (c : ℕ) (bs p rest : List ℕ) → (bs ≡ p ++ c ∷ rest) × Free c p → parts c bs ≡ p ∷ parts c rest
+cut_part c bs p rest h = ap (parts c) h.0 ∙ parts_after c p rest h.1
 
 -- no other parts, joined, are the bytes
 pub only : (c : ℕ) (ps : List (List ℕ)) → 0 < length ps → AllByRecursion (Free c) ps → parts c (joined_by c ps) ≡ ps
@@ -125,6 +132,17 @@ line_cut input = record {
       h.1;
 }
 
+-- the line that a part is: a last part with nothing in it is none
+pub first_line : (p : List ℕ) (ps : List (List ℕ)) → (0 < length p) ⊎ (0 < length ps) → ended (p ∷ ps) ≡ p ∷ ended ps
+first_line [] [] h = absurd (⊎_elim (λ l. omega arith) (λ l. omega arith) h)
+first_line (b ∷ p) [] h = refl
+first_line p (q ∷ ps) h = refl
+
+-- what is left is a part or more
+pub some_left : (c : ℕ) (o : Option (Bor (List ℕ))) → is_some o ≡ true → 0 < length (to_come c o)
+some_left c None h = cc
+some_left c (Some rest) h = parts_some c rest.now
+
 -- the words of a line
 texts_placed : (column : ℕ) (ws : List (List ℕ)) → texts (placed column ws) ≡ ws
 texts_placed column [] = refl
@@ -148,3 +166,14 @@ word_cut line =
           column_placed 1 k (parts 9 line) (omega (arith, ap length same, length-map (words line) (λ w. w.bytes)))
           ∙ ap (λ ws. 1 + length (flat_map (λ w. w ++ 9 ∷ []) (take k ws))) (sym same);
     }
+
+placed_some : (column : ℕ) (ws : List (List ℕ)) → 0 < length ws → 0 < length (placed column ws)
+placed_some column [] h = h
+placed_some column (w ∷ ws) h = omega arith
+
+-- whether a word is left
+pub none_left : (column : ℕ) (o : Option (Bor (List ℕ))) (none : Bool) → is_some o ≡ not none → none ≡ eqb (length (placed column (to_come 9 o))) 0
+none_left column None true h = refl
+none_left column None false h = cc
+none_left column (Some rest) true h = cc
+none_left column (Some rest) false h = sym (ne_eqb _ 0 (λ z. omega (arith, placed_some column (parts 9 rest.now) (parts_some 9 rest.now))))

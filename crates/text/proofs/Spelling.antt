@@ -1,34 +1,20 @@
 -- Words of digits, and the numbers that they write. Assumes nothing.
-use Rattle.std.proofs.Common.{◌≡◌, ℕ, ◌+◌, ◌-◌, ◌*◌, ◌/◌, ◌%◌, ◌^◌, ◌<◌, ◌≤◌, ◌⊎◌, List, [], ◌∷◌, ◌++◌, length, get_or, take, Some, None, decimal, Option, sym, ap, ◌∙◌, subst, ⊎_elim, append_assoc, arith, MatchOption}
+use Rattle.std.proofs.Common.{◌≡◌, ℕ, ◌^◌, ◌<◌, ◌≤◌, List, length, get_or, drop, Some, None, Ok, Err, decimal, Option, Result, sym, ap, ◌∙◌, subst, ⊎_elim, arith, MatchOption, MatchResult}
+use Rattle.std.specs.Result.{result_ok}
 use Rattle.text.specs.Numbers.{NumberWord, Spells}
-use Rattle.std.specs.Str.Parse.{digits_value, AllDigits}
-use Rattle.std.specs.Char.{digit_value}
-use Rattle.std.proofs.lemmas.Int.Digits.{digits_value_more, digits_more}
-use Rattle.std.proofs.lemmas.List.{length-take-le}
-use Rattle.std.proofs.lemmas.Str.Parse.{IsNumeralModel, numerals_by_value, tells_digits, digits_value_short, digit_at}
-use Rattle.std.proofs.lemmas.Fmt.{decimal_nonempty, length-decimal-le, first_decimal, digits_decimal, decimal-digits_value, decimal_digit, decimal_step, decimal_injective}
-use Rattle.std.proofs.lemmas.Bool.{lt-ltb, le-ltb, cond-true, cond-false, cases_lt}
+use Rattle.std.specs.Str.Parse.{digits_value, AllDigits, IsNumeral, ParsesUnsigned, without_leading_plus}
+use Rattle.std.specs.Borrow.{Bor}
+use Rattle.std.specs.Str.{IsUtf8}
+use Rattle.std.proofs.lemmas.Str.{IsUtf8-from_ascii}
+use Rattle.std.proofs.lemmas.Str.Parse.{IsNumeralModel, numerals_by_value, tells_digits, digits_value_short}
+use Rattle.std.proofs.lemmas.Fmt.{IsAscii-from_digits, decimal_nonempty, length-decimal-le, first_decimal, digits_decimal, decimal-digits_value, decimal_digit, decimal_injective}
+use Rattle.std.proofs.lemmas.Bool.{cases_lt, cond-false, ne_eqb}
 
 pub own : IsNumeralModel (AllDigits 10) (digits_value 10)
 own = numerals_by_value (AllDigits 10) tells_digits
 
-digit_is : (b : ℕ) → 48 ≤ b → b ≤ 57 → digit_value b ≡ b - 48
-digit_is b low high = cond-false _ _ _ (le-ltb b 48 low) ∙ cond-true _ _ _ (lt-ltb b 58 (omega arith))
-
-pub small : (bs : List ℕ) (i : ℕ) → i < length bs → length bs ≤ 5 → AllDigits 10 (take i bs) → digits_value 10 (take i bs) < 10000
-small bs i h l d = digits_value_short own (take i bs) 4 d (omega (arith, length-take-le i bs (omega arith)))
-
-pub one_more : (bs : List ℕ) (i n : ℕ) → i < length bs → 48 ≤ get_or bs i 0 → get_or bs i 0 ≤ 57 → AllDigits 10 (take i bs) × (n ≡ digits_value 10 (take i bs)) → AllDigits 10 (take (i + 1) bs) × (n * 10 + (get_or bs i 0 - 48) ≡ digits_value 10 (take (i + 1) bs))
-one_more bs i n h low high inv =
-    let is = digit_is (get_or bs i 0) low high in
-    (digits_more 10 bs i h inv.0 (omega arith), omega (arith, digits_value_more 10 bs i h, inv.1, is))
-
-pub no_digit : (bs : List ℕ) (i : ℕ) → i < length bs → (get_or bs i 0 < 48) ⊎ (57 < get_or bs i 0) → AllDigits 10 bs → ⊥
-no_digit bs i h out d =
-    let at = digit_at bs i d h in ⊎_elim (λ l. omega arith) (λ l. omega arith) out
-
 -- what is written of a number below 100000 is a number word
-pub shape : (bs : List ℕ) (n : ℕ) → n < 100000 → bs ≡ decimal n → NumberWord bs
+shape : (bs : List ℕ) (n : ℕ) → n < 100000 → bs ≡ decimal n → NumberWord bs
 shape bs n h e =
     let fits : n < 2 ^ 64 = omega arith in
     subst NumberWord (sym e) (record {
@@ -38,15 +24,23 @@ shape bs n h e =
       digits = digits_decimal own n fits;
     })
 
-pub written : (bs : List ℕ) → NumberWord bs → (digits_value 10 bs < 100000) × (bs ≡ decimal (digits_value 10 bs))
+written : (bs : List ℕ) → NumberWord bs → (digits_value 10 bs < 100000) × (bs ≡ decimal (digits_value 10 bs))
 written bs s =
     let low : digits_value 10 bs < 100000 = digits_value_short own bs 5 s.digits s.short in
     (low, sym (decimal-digits_value own bs s.digits s.some s.lead (omega arith)))
 
--- what a word that passed the other tests reads as, from its digits
-pub judged : (bs : List ℕ) (r : Option ℕ) → 0 < length bs → length bs ≤ 5 → (get_or bs 0 0 ≡ 48 → length bs ≡ 1) → MatchOption r (AllDigits 10 bs → ⊥) (λ n. AllDigits 10 bs × (n ≡ digits_value 10 bs)) → MatchOption r (NumberWord bs → ⊥) (λ n. NumberWord bs × (n ≡ digits_value 10 bs))
-judged bs None some short lead h = λ w. h w.digits
-judged bs (Some m) some short lead h = (record { some = some; short = short; lead = lead; digits = h.0 }, h.1)
+-- a word whose first byte is no sign is read as its digits
+unsigned : (bs : List ℕ) → 49 ≤ get_or bs 0 0 → without_leading_plus bs ≡ bs
+unsigned bs low = ap (λ n. drop n bs) (cond-false _ 1 0 (ne_eqb (get_or bs 0 0) 43 (λ e. omega arith)))
+
+-- what a word that is short and begins with a digit other than 0 is parsed as
+pub parsed : {E : Type 0} (bs : List ℕ) (r : Result ℕ E) → 0 < length bs → length bs ≤ 5 → 49 ≤ get_or bs 0 0 → ParsesUnsigned 64 10 bs r → MatchOption (result_ok r) (NumberWord bs → ⊥) (λ n. NumberWord bs × (n ≡ digits_value 10 bs))
+parsed bs (Ok n) some short low h =
+    let same = unsigned bs low in
+    (record { some = some; short = short; digits = subst (AllDigits 10) same h.0.0.1; lead = λ e. absurd (omega arith) }, h.1 ∙ ap (digits_value 10) same)
+parsed bs (Err e) some short low h = λ w.
+    let P : List ℕ → Type 0 = λ ds. IsNumeral 10 ds × (digits_value 10 ds < 2 ^ 64) in
+    h (subst P (sym (unsigned bs low)) ((w.some, w.digits), omega (arith, (written bs w).0)))
 
 pub spells : (bs : List ℕ) (r : Option ℕ) → MatchOption r (NumberWord bs → ⊥) (λ n. NumberWord bs × (n ≡ digits_value 10 bs)) → MatchOption r ((n : ℕ) → Spells bs n → ⊥) (Spells bs)
 spells bs None h = λ n s. h (shape bs n s.0 s.1)
@@ -59,12 +53,11 @@ pub back : (bs : List ℕ) (r : Option ℕ) → MatchOption r ((n : ℕ) → Spe
 back bs None h n s = absurd (h n s)
 back bs (Some m) h n s = ap Some (decimal_injective m n (omega (arith, h.0)) (omega (arith, s.0)) (sym h.1 ∙ s.1))
 
--- a number's digits: the last after those of its tenth
-pub more_digits : (n : ℕ) (before mid after : List ℕ) → 10 ≤ n → n < 2 ^ 64 → mid ≡ before ++ decimal (n / 10) → after ≡ mid ++ ((48 + n % 10) ∷ []) → after ≡ before ++ decimal n
-more_digits n before mid after many fits m a =
-    a ∙ ap (λ l. l ++ ((48 + n % 10) ∷ [])) m ∙ append_assoc before (decimal (n / 10)) _ ∙ ap (λ l. before ++ l) (sym (decimal_step n many fits))
+-- number words are text
+pub utf8 : {S E : Type 0} (bs : List ℕ) (r : Result S E) (P : S → Type 0) (Q : E → Type 0) → MatchResult r P (λ e. ¬ (IsUtf8 bs) × Q e) → result_ok r ≡ None → NumberWord bs → ⊥
+utf8 bs (Ok s) P Q h none w = cc
+utf8 bs (Err e) P Q h none w = h.0 (IsUtf8-from_ascii bs (IsAscii-from_digits bs w.digits))
 
-pub one_digit : (n : ℕ) (before mid after : List ℕ) → n < 10 → mid ≡ before → after ≡ mid ++ ((48 + n % 10) ∷ []) → after ≡ before ++ decimal n
-one_digit n before mid after low m a =
-    let same : 48 + n % 10 ≡ 48 + n = omega arith in
-    a ∙ (λ i. m i ++ (same i ∷ [])) ∙ ap (λ l. before ++ l) (sym (decimal_digit n low))
+pub as_text : {E : Type 0} (bs : List ℕ) (r : Result (Bor (List ℕ)) E) (U : Type 0) (Q : E → Type 0) (s : Bor (List ℕ)) → MatchResult r (λ t. (t.now ≡ bs) × U) Q → Some s ≡ result_ok r → bs ≡ s.now
+as_text bs (Ok t) U Q s h is = cc
+as_text bs (Err e) U Q s h is = cc

@@ -1,8 +1,8 @@
 -- The lines of an input. Assumes nothing.
-use Rattle.std.specs.Prelude.{◌≡◌, ℕ, List, [], ◌∷◌, Some, None, Option}
-use Rattle.std.specs.Borrow.{Bor}
+use Rattle.std.specs.Prelude.{ℕ, List, [], ◌∷◌}
 use Rattle.text.specs.declared.lines.Lines.{Lines}
 use Rattle.text.specs.Parts.{parts, front, final}
+use Rattle.text.specs.Walk.{to_come}
 
 -- without the last part where that is empty
 abbrev pub ended : List (List ℕ) → List (List ℕ)
@@ -24,9 +24,4 @@ open_line input = final (parts 10 input)
 
 -- the lines that are still to come
 abbrev pub todo : Lines → List (List ℕ)
-todo l = lines l.rest.now
-
--- taking one line off ls, where there is one
-abbrev pub Reads : List (List ℕ) → Option (Bor (List ℕ)) → List (List ℕ) → Type 0
-Reads before None after = (before ≡ []) × (after ≡ [])
-Reads before (Some l) after = before ≡ l.now ∷ after
+todo l = ended (to_come 10 l.parts.rest)

@@ -1,8 +1,9 @@
 -- The words of a line, with their columns. Assumes nothing.
-use Rattle.std.specs.Prelude.{◌≡◌, ℕ, zero, suc, ◌+◌, cond, List, [], ◌∷◌, map, length, drop, Some, None, Option, nat_le}
+use Rattle.std.specs.Prelude.{◌≡◌, ℕ, zero, suc, ◌+◌, List, [], ◌∷◌, map, length, Some, None, Option}
 use Rattle.text.specs.declared.words.Word.{Word}
 use Rattle.text.specs.declared.words.Words.{Words}
 use Rattle.text.specs.Parts.{parts}
+use Rattle.text.specs.Walk.{to_come}
 
 -- a word: its bytes, and the column at which it begins
 pub record Placed : Type 0 where
@@ -27,17 +28,13 @@ column_of k [] = 0
 column_of zero (w ∷ ws) = w.column
 column_of (suc k) (w ∷ ws) = column_of k ws
 
--- those that begin at byte `at` or later, where a word begins there
-abbrev pub words_from : List ℕ → ℕ → List Placed
-words_from line at = cond (nat_le at (length line)) (placed (at + 1) (parts 9 (drop at line))) []
-
 -- what a word of the code stands for
 abbrev pub place : Word → Placed
 place w = record { bytes = w.bytes.now; column = w.column }
 
 -- the words that are still to come
 abbrev pub left : Words → List Placed
-left ws = words_from ws.line.now ws.at
+left ws = placed ws.column (to_come 9 ws.parts.rest)
 
 -- taking one word off ws, where there is one
 abbrev pub Takes : List Placed → Option Word → List Placed → Type 0

@@ -1,35 +1,26 @@
 // Bytes parted at a separator: the lines of an input, the words of a line, and the numbers that words write.
 #![tactic(auto)]
 
-ghost use Rattle.std.specs.Prelude.{◌≡◌, ◌<◌, ◌≤◌, ◌∷◌, ◌++◌, length, MatchOption, slice_index};
-ghost use Rattle.text.specs.Parts.{Lacks, Free};
+ghost use Rattle.std.specs.Prelude.{◌≡◌, ◌∷◌, ◌++◌, ◌==◌, MatchOption, position};
+ghost use Rattle.text.specs.Parts.{Free};
 
 pub mod lines;
 pub mod numbers;
+mod parts;
+mod taking;
 pub mod words;
 
-// How many bytes stand before the first that is `at`: all of them where none is.
-fn before(bytes: &[u8], at: u8) -> usize
-    ensures within { result ≤ length bytes.now }
-    ensures lacks { Lacks at bytes.now result }
-    ensures found { result < length bytes.now → slice_index bytes.now result ≡ at }
+// Where the first `at` stands.
+fn first(bytes: &[u8], at: u8) -> Option<usize>
+    ensures { result ≡ position (λ b. b == at) bytes.now }
 {
-    for (i, b) in bytes.iter().enumerate() {
-        if *b == at {
-            return i;
-        }
-    }
-    bytes.len()
+    bytes.iter().position(|b| *b == at)
 }
 
 // What stands before the first `at`, and what after it, where there is one.
 pub fn cut_at(bytes: &[u8], at: u8) -> Option<(&[u8], &[u8])>
     ensures { MatchOption result (Free at bytes.now) (λ p. (bytes.now ≡ p.0.now ++ at ∷ p.1.now) × Free at p.0.now) }
 {
-    let n = before(bytes, at);
-    if n < bytes.len() {
-        Some((&bytes[0..n], &bytes[n + 1..]))
-    } else {
-        None
-    }
+    let n = first(bytes, at)?;
+    Some((&bytes[..n], &bytes[n + 1..]))
 }

@@ -1,15 +1,16 @@
 // The lines of an input.
 ghost use Rattle.std.specs.Prelude.{◌≡◌, length};
 ghost use Rattle.text.specs.Cutting.{LineCut};
-ghost use Rattle.text.specs.Lines.{lines, todo, Reads};
+ghost use Rattle.text.specs.Lines.{lines, todo};
+ghost use Rattle.text.specs.Walk.{Reads};
 ghost use Rattle.std.specs.Iterator.{at_most};
 
-use crate::before;
+use crate::parts::Parts;
 
 // The lines of an input that are still to come.
 #[derive(Clone, Copy)]
 pub struct Lines<'a> {
-    rest: &'a [u8],
+    parts: Parts<'a, b'\n'>,
 }
 
 impl<'a> Lines<'a> {
@@ -18,25 +19,21 @@ impl<'a> Lines<'a> {
         ensures all { todo result ≡ lines input.now }
         ensures cut { LineCut input.now }
     {
-        Lines { rest: input }
+        Lines {
+            parts: Parts { rest: Some(input) },
+        }
     }
 
     // Takes the next line, without its line feed.
     pub fn next_line(&mut self) -> Option<&'a [u8]>
         ensures { Reads (todo self.old) result (todo self.new) }
     {
-        let rest = self.rest;
-        let done = rest.is_empty();
-        if done {
+        let line = self.parts.next()?;
+        // A last part with nothing in it is no line.
+        if line.is_empty() && self.parts.rest.is_none() {
             return None;
         }
-        let len = before(rest, b'\n');
-        if len < rest.len() {
-            self.rest = &rest[len + 1..];
-        } else {
-            self.rest = &rest[len..];
-        }
-        Some(&rest[0..len])
+        Some(line)
     }
 }
 

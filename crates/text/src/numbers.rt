@@ -1,23 +1,21 @@
 // Number words, read and written.
-ghost use Rattle.std.specs.Prelude.{◌≡◌, ℕ, ◌<◌, ◌≤◌, ◌++◌, length, Some, decimal, MatchOption, OnOk};
-ghost use Rattle.std.specs.Str.Parse.{digits_value, AllDigits};
+ghost use Rattle.std.specs.Prelude.{◌≡◌, ℕ, ◌++◌, Some, decimal, MatchOption, OnOk};
+ghost use Rattle.std.specs.Str.Parse.{digits_value};
 ghost use Rattle.text.specs.Numbers.{NumberWord, Spells};
 
+use itoa::Buffer;
 use std::alloc::AllocError;
+use std::str;
 
-// The value of at most five digits.
-fn digits(word: &[u8]) -> Option<usize>
-    requires { length word.now ≤ 5 }
-    ensures { MatchOption result (AllDigits 10 word.now → ⊥) (λ n. AllDigits 10 word.now × (n ≡ digits_value 10 word.now)) }
+// The value of a number word: 0 alone, or up to five digits of which the first is another.
+fn value(word: &[u8]) -> Option<usize>
+    ensures { MatchOption result (NumberWord word.now → ⊥) (λ n. NumberWord word.now × (n ≡ digits_value 10 word.now)) }
 {
-    let mut n = 0usize;
-    for b in word {
-        if *b < b'0' || *b > b'9' {
-            return None;
-        }
-        n = n * 10 + usize::from(*b - b'0');
+    match word.first()? {
+        b'0' => (word.len() == 1).then_some(0),
+        b'1'..=b'9' if word.len() <= 5 => str::from_utf8(word).ok()?.parse().ok(),
+        _ => None,
     }
-    Some(n)
 }
 
 // The value of a number word.
@@ -26,23 +24,13 @@ pub fn number(word: &[u8]) -> Option<usize>
     ensures spells { MatchOption result ((n : ℕ) → Spells word.now n → ⊥) (Spells word.now) }
     ensures back { (n : ℕ) → Spells word.now n → result ≡ Some n }
 {
-    if word.is_empty() || word.len() > 5 {
-        return None;
-    }
-    let longer = word.len() > 1;
-    if word[0] == b'0' && longer {
-        return None;
-    }
-    digits(word)
+    value(word)
 }
 
 // Adds the digits of `n` to `out`.
 pub fn push_number(out: &mut Vec<u8>, n: usize) -> Result<(), AllocError>
     ensures { OnOk result (out.new.items ≡ out.old.items ++ decimal n) }
 {
-    if n >= 10 {
-        push_number(out, n / 10)?;
-    }
-    out.push(b'0' + (n % 10) as u8)?;
-    Ok(())
+    let mut buffer = Buffer::new();
+    out.extend_from_slice(buffer.format(n).as_bytes())
 }

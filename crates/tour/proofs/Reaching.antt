@@ -1,5 +1,5 @@
 -- One call more.
-use Rattle.std.proofs.Common.{◌≡◌, ℕ, Bool, true, false, cond, leb, List, [], ◌∷◌, ◌++◌, map, Ok, Err, Result, sym, refl, ◌∙◌, ap₂, arith}
+use Rattle.std.proofs.Common.{◌≡◌, ℕ, Bool, true, false, cond, leb, List, [], ◌∷◌, ◌++◌, map, Ok, Err, Result, sym, refl, ap, ◌∙◌}
 use Rattle.field.specs.Laws.{Operations}
 use Rattle.store.specs.Meaning.{Meaning}
 use Rattle.code.specs.Codes.{CodeMeaning}
@@ -30,14 +30,14 @@ module _ {F : Type 0} (o : Operations F) (size : ℕ) (code : CodeMeaning F) whe
   unfolding Onward asked_after
   onward_none m m₀ h l c = record { history = h; asks = refl; leads = l; claims = c }
 
-  pub onward_more : (calls : List (Call F)) (c d : Call F) (m m₁ m₂ : Meaning F) (n : ℕ) (r : Result (Answer F) CallFault) → asked d ≡ asked c → Onward o size code calls m m₁ → Extends o size code (record { ask = asked d; room = n; answer = r }) m₁ m₂ → Onward o size code (calls ++ (c ∷ [])) m m₂
+  pub onward_more : (calls : List (Call F)) (c : Call F) (m m₁ m₂ : Meaning F) (n : ℕ) (r : Result (Answer F) CallFault) → Onward o size code calls m m₁ → Extends o size code (record { ask = asked c; room = n; answer = r }) m₁ m₂ → Onward o size code (calls ++ (c ∷ [])) m m₂
   unfolding Onward Extends asks_of
-  onward_more calls c d m m₁ m₂ n r same on x m₀ h l k =
+  onward_more calls c m m₁ m₂ n r on x m₀ h l k =
       let t = on m₀ h l k in
       let u = x m₀ t.history t.leads in
       record {
-        history = record { ask = asked d; room = n; answer = r } ∷ t.history;
-        asks = ap₂ (λ a b. a ∷ b) same t.asks ∙ sym (asked_push calls c (map (λ e. e.ask) h));
+        history = record { ask = asked c; room = n; answer = r } ∷ t.history;
+        asks = ap (λ b. asked c ∷ b) t.asks ∙ sym (asked_push calls c (map (λ e. e.ask) h));
         leads = u.leads;
         claims = u.claims;
       }
@@ -49,5 +49,5 @@ made_engine size code m e x h = go (leb code.field_size size) (fits code m) h
   where
     go : (a b : Bool) → Ok e ≡ cond a (cond b (Ok x) (Err SmallStore)) (Err SmallField) → e ≡ x
     go true true q = cc
-    go true false q = let z : ◌≡◌ {A = ℕ} 0 1 = cc in absurd (omega arith)
-    go false b q = let z : ◌≡◌ {A = ℕ} 0 1 = cc in absurd (omega arith)
+    go true false q = cc
+    go false b q = cc

@@ -1,8 +1,7 @@
 // Callers of an engine: a few calls, and any calls, with what the theorem says at their end.
 #![tactic(auto)]
 
-ghost use Rattle.std.specs.Prelude.{◌≡◌, OnOk};
-ghost use Rattle.calls.specs.History.{asked};
+ghost use Rattle.std.specs.Prelude.{OnOk};
 ghost use Rattle.tour.specs.Tour.{Onward, Reached};
 
 use calls::{Answer, Call, CallFault};
@@ -28,20 +27,6 @@ pub fn rehearse<F: NumberedField, S: Store<F>, C: Code<F>>(
     Ok(mended)
 }
 
-// The call behind a reference.
-fn again<'c, F: NumberedField>(call: &Call<'c, F>) -> Call<'c, F>
-    ensures { asked result ≡ asked call.now }
-{
-    match call {
-        Call::Set(symbols) => Call::Set(*symbols),
-        Call::Put(row, column, x) => Call::Put(*row, *column, *x),
-        Call::Fetch(row, column) => Call::Fetch(*row, *column),
-        Call::Lose(node) => Call::Lose(*node),
-        Call::Refresh(node) => Call::Refresh(*node),
-        Call::Mend(node) => Call::Mend(*node),
-    }
-}
-
 // Serves each call of a slice, whatever it answers.
 pub fn run<F: NumberedField, S: Store<F>, C: Code<F>>(
     engine: &Engine<C>,
@@ -51,7 +36,7 @@ pub fn run<F: NumberedField, S: Store<F>, C: Code<F>>(
 )
     ensures { Onward F.Field.ops F.NumberedField.size (C.Code.code engine.now.code) calls.now (S.Store.meaning store.old) (S.Store.meaning store.new) }
 {
-    for call in calls {
-        let _answer = engine.serve(store, again(call), memory);
+    for call in calls.iter().copied() {
+        let _answer = engine.serve(store, call, memory);
     }
 }

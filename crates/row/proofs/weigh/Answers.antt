@@ -1,20 +1,26 @@
-use Rattle.std.proofs.Common.{◌≡◌, ℕ, length, get_or, ap, ◌∙◌, arith}
-use Rattle.std.proofs.lemmas.List.{get_or_read}
-use Rattle.row.specs.Interpolation.{sum_below}
+use Rattle.std.proofs.Common.{ℕ, length, get_or, ◌∙◌}
+use Rattle.std.proofs.lemmas.List.{length_push}
+use Rattle.std.proofs.lemmas.Slice.Zip.{zip_turn, zip_end}
 use Rattle.row.proofs.Lagrange.{sum_more}
+use Rattle.row.proofs.Rules.{weighed_pairs}
 use Rattle.row.proofs.weigh.Goals as goal
 
-pub loop-l-preserved : goal.loop-l-preserved
-loop-l-preserved g c =
+pub loop-weight-preserved : goal.loop-weight-preserved
+loop-weight-preserved g c =
     let o = g.F.Field.ops in
     let values = c.args.values.now in
     let weights = c.args.weights.now in
-    let e = sum_more o c.loop-l.l (λ (i : ℕ). o.product (get_or values i o.zero) (get_or weights i o.zero)) in
-    let w = get_or_read weights c.loop-l.l c.index-weights-l.result (omega arith) c.index-weights-l.is o.zero in
+    let n = length c.loop-weight.yielded in
+    let t = zip_turn weights values c.loop-weight.yielded _ _ c.next.new.self _ (cc) (cc) c.loop-weight.yielded_by (c.in-Some.weight, c.in-Some.value) c.in-Some.is c.next.ensures.steps in
+    let w = t.2 o.zero in
+    let v = t.3 o.zero in
+    let e = sum_more o n (λ (i : ℕ). o.product (get_or values i o.zero) (get_or weights i o.zero)) in
+    let p = length_push c.loop-weight.yielded (c.in-Some.weight, c.in-Some.value) in
     cc
 
 pub returns : goal.returns
 returns g c =
-    let o = g.F.Field.ops in
-    let e : c.loop-l.l ≡ length c.args.weights.now = omega arith in
-    c.loop-l.invariant ∙ ap (λ n. sum_below o n (λ i. o.product (get_or c.args.values.now i o.zero) (get_or c.args.weights.now i o.zero))) e
+    let values = c.args.values.now in
+    let weights = c.args.weights.now in
+    let e = zip_end weights values c.loop-weight.yielded _ _ c.next.new.self _ (cc) (cc) c.loop-weight.yielded_by c.in-None.is c.next.ensures.steps in
+    c.loop-weight.invariant ∙ weighed_pairs g.met.F.Field.laws weights values _ e

@@ -18,14 +18,11 @@ returns-in_err-check g c =
 pub gather-count-requires : goal.gather-count-requires
 gather-count-requires g c = record { clear = checked_clear Fetch (g.S.Store.meaning c.args.store.now) (g.P.Listing.entries c.args.plan.now) (sym c.in_ok-check.ensures); slots = c.requires.slots }
 
-pub solve_from-symbol-requires : goal.solve_from-symbol-requires
-solve_from-symbol-requires g c = c.requires.ready
-
 pub returns : goal.returns
 unfolding FetchedBy found given_by
 returns g c =
     let z = g.F.Field.ops.zero in
-    let s = c.solve_from-symbol.ensures ∙ ap (λ t. g.P.Solver.solved c.args.plan.now t c.args.row) c.gather-count.ensures.table in
+    let s = c.solve-symbol.ensures ∙ ap (λ t. g.P.Solver.solved c.args.plan.now t c.args.row) c.gather-count.ensures.table in
     record {
       done = sheet_read Fetch (g.S.Store.meaning c.args.store.now) (g.P.Listing.entries c.args.plan.now) _ _ _ (g.S.Store.meaning c.gather-count.new.store) c.in_ok-check.ensures (ap₂ (λ n x. Ok (record { count = n; symbol = x })) c.gather-count.ensures.count s) c.gather-count.ensures.leaves;
       memory = memory_wiped z _ _ c.args.memory.now c.gather-count.new.memory c.wipe.new.memory refl c.wipe.ensures c.gather-count.auto.memory;

@@ -19,8 +19,8 @@ returns-in_err-check g c =
 pub gather-count-requires : goal.gather-count-requires
 gather-count-requires g c = record { clear = checked_clear Mend (g.S.Store.meaning c.args.store.now) (g.P.Listing.entries c.args.plan.now) (sym c.in_ok-check.ensures); slots = c.requires.slots }
 
-pub rebuild-requires : goal.rebuild-requires
-rebuild-requires g c =
+pub write_node-requires : goal.write_node-requires
+write_node-requires g c =
     let s = raised_sizes (g.S.Store.meaning c.args.store.now) (g.S.Store.meaning c.gather-count.new.store) (sheet_of (g.P.Listing.entries c.args.plan.now)) c.gather-count.ensures.leaves in
     record { room = (omega (arith, c.requires.room.0, s.0), omega (arith, c.requires.room.1, s.1)); ready = c.requires.ready }
 
@@ -29,7 +29,7 @@ unfolding given_by
 returns g c =
     let z = g.F.Field.ops.zero in
     record {
-      done = sheet_read Mend (g.S.Store.meaning c.args.store.now) (g.P.Listing.entries c.args.plan.now) _ _ _ (g.S.Store.meaning c.rebuild.new.store) c.in_ok-check.ensures (ap Ok c.gather-count.ensures.count)
-          (c.rebuild.ensures ∙ ap₂ (λ x t. painted x (in_node c.args.rows c.args.node) (λ i _. g.P.Solver.solved c.args.plan.now t i)) c.gather-count.ensures.leaves c.gather-count.ensures.table);
+      done = sheet_read Mend (g.S.Store.meaning c.args.store.now) (g.P.Listing.entries c.args.plan.now) _ _ _ (g.S.Store.meaning c.write_node.new.store) c.in_ok-check.ensures (ap Ok c.gather-count.ensures.count)
+          (c.write_node.ensures ∙ ap₂ (λ x t. painted x (in_node c.args.rows c.args.node) (λ i _. g.P.Solver.solved c.args.plan.now t i)) c.gather-count.ensures.leaves c.gather-count.ensures.table);
       memory = memory_wiped z _ _ c.args.memory.now c.gather-count.new.memory c.wipe.new.memory refl c.wipe.ensures c.gather-count.auto.memory;
     }

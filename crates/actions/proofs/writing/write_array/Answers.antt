@@ -1,14 +1,8 @@
-use Rattle.std.proofs.Common.{◌≡◌, ◌+◌, sym, ap, ◌∙◌, arith}
+use Rattle.std.proofs.Common.{◌+◌, sym, ap, ◌∙◌, arith}
 use Rattle.calls.specs.Reading.{painted, in_array, in_node}
 use Rattle.calls.proofs.Declines.{fits_parts}
-use Rattle.actions.proofs.Painting.{painted_none, painted_twice, rows_painted, array_start, array_more, node_row}
+use Rattle.actions.proofs.Painting.{painted_twice, rows_painted, array_more, node_row}
 use Rattle.actions.proofs.writing.write_array.Goals as goal
-
-pub loop-node-init : goal.loop-node-init
-loop-node-init g c = sym (painted_none (g.S.Store.meaning c.args.store.now) (in_array (g.C.Code.code c.args.code.now).rows 0) ((g.C.Code.code c.args.code.now).symbol (g.T.Table.held c.args.table.now)) (array_start (g.C.Code.code c.args.code.now).rows))
-
-pub column-column-requires : goal.column-column-requires
-column-column-requires g c = record { fine = c.requires.fine; node = omega (arith, c.nodes-node-end.ensures, c.loop-node-test.true) }
 
 pub write_node-requires : goal.write_node-requires
 write_node-requires g c =
@@ -29,6 +23,3 @@ loop-node-preserved g c =
     (c.write_node.ensures ∙ ap (λ n. painted (g.S.Store.meaning c.loop-node.store) (in_node n c.loop-node.node) (λ i _. g.C.Column.Solver.solved c.column-column.result (g.T.Table.held c.args.table.now) i)) c.rows-rows.ensures)
     (λ i j t. let q = node_row (g.C.Code.code c.args.code.now).rows c.loop-node.node i j t in c.column-column.ensures.solved (g.T.Table.held c.args.table.now) i q.0 ∙ ap ((g.C.Code.code c.args.code.now).symbol (g.T.Table.held c.args.table.now) i) (sym q.1))
     (array_more (g.C.Code.code c.args.code.now).rows c.loop-node.node)
-
-pub returns : goal.returns
-returns g c = let e : c.loop-node.node ≡ (g.C.Code.code c.args.code.now).nodes = omega (arith, c.nodes-node-end.ensures) in c.loop-node.invariant ∙ ap (λ n. painted (g.S.Store.meaning c.args.store.now) (in_array (g.C.Code.code c.args.code.now).rows n) ((g.C.Code.code c.args.code.now).symbol (g.T.Table.held c.args.table.now))) e

@@ -4,5 +4,5 @@ use Rattle.byte.specs.Times.{times}
 use Rattle.byte.proofs.arithmetic.product_by_bits.Given as goal
 
 -- what is done, and what is left
-abbrev pub invariant-loop-i : goal.invariant-loop-i
-invariant-loop-i l = bit_xor l.result (times (8 - l.i) l.factor l.rest) ≡ times 8 l.a l.b
+abbrev pub invariant-loop : goal.invariant-loop
+invariant-loop l = bit_xor l.result (times (8 - l.counter) l.factor l.rest) ≡ times 8 l.a l.b

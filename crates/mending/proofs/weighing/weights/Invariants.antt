@@ -1,4 +1,4 @@
-use Rattle.std.proofs.Common.{◌≡◌, ℕ, ◌<◌, length, get_or}
+use Rattle.std.proofs.Common.{◌≡◌, ℕ, ◌<◌, get_or}
 use Rattle.row.specs.Numbered.{numbered}
 use Rattle.row.specs.Interpolation.{basis}
 use Rattle.array.specs.Layout.{skip}
@@ -7,5 +7,4 @@ use Rattle.mending.proofs.weighing.weights.Given as goal
 abbrev pub invariant-loop-l : goal.invariant-loop-l
 invariant-loop-l g l =
     let o = g.F.Field.ops in
-    (length l.weights ≡ 32)
-    × ((j : ℕ) → j < l.l → numbered o.zero g.F.NumberedField.symbol (get_or l.weights j 0) ≡ basis o (λ i. numbered o.zero g.F.NumberedField.symbol (skip l.gap i)) l.k j l.point)
+    (j : ℕ) → j < l.l → numbered o.zero g.F.NumberedField.symbol (get_or l.kept-items j 0) ≡ basis o (λ i. numbered o.zero g.F.NumberedField.symbol (skip l.gap i)) l.k j l.point

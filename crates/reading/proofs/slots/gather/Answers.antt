@@ -9,6 +9,3 @@ fill-requires g c =
       slots = subst (λ n. Slotted (g.P.Listing.entries c.args.plan.now) (g.P.ReadPlan.slot c.args.plan.now) n) (sym c.vacate.auto.memory) c.requires.slots;
       vacant = c.vacate.ensures;
     }
-
-pub returns : goal.returns
-returns g c = c.fill.ensures

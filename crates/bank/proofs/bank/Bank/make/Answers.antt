@@ -1,5 +1,5 @@
-use Rattle.bank.proofs.Kept.{kept_blank, beyond_blank}
+use Rattle.std.proofs.Common.{◌∙◌}
 use Rattle.bank.proofs.bank.Bank.make.Goals as goal
 
-pub returns : goal.returns
-returns g c = record { blank = kept_blank c.args.shape.rows c.args.shape.nodes c.args.memory.now c.clear.new.self.cells.now c.clear.ensures.each; beyond = beyond_blank c.args.shape.rows c.args.shape.nodes c.args.memory.now c.clear.new.self.cells.now c.clear.ensures.long c.clear.ensures.each; lender = c.clear.ensures.lender }
+pub returns-clause-blank : goal.returns-clause-blank
+returns-clause-blank g c = c.open.ensures.opened ∙ c.make.ensures.leaves

@@ -1,16 +1,8 @@
-use Rattle.std.proofs.Common.{◌*◌, arith}
-use Rattle.image.proofs.Imaged.{imaged_blank, zeros_run, beyond_blank}
+use Rattle.std.proofs.Common.{◌/◌, slice_index, ap, ◌∙◌, arith}
 use Rattle.image.proofs.image.CardImage.make.Goals as goal
 
-pub returns : goal.returns
-returns g c =
-    let rows = c.args.shape.rows in
-    let nodes = c.args.shape.nodes in
-    let was = c.args.memory.now in
-    let after = c.clear.new.self.bytes.now in
-    record {
-      blank = imaged_blank g.F.NumberedField.symbol rows nodes was after c.clear.ensures.each;
-      zeros = λ k a b. zeros_run was after 0 (rows * nodes) c.clear.ensures.each k (omega arith) (omega arith);
-      beyond = beyond_blank rows nodes was after c.clear.ensures.long c.clear.ensures.each;
-      lender = c.clear.ensures.lender;
-    }
+pub returns-clause-blank : goal.returns-clause-blank
+returns-clause-blank g c = c.open.ensures.opened ∙ c.make.ensures.leaves
+
+pub returns-clause-zeros : goal.returns-clause-zeros
+returns-clause-zeros g c = λ k a b. ap (λ bytes. slice_index bytes k) c.open.ensures.untouched ∙ c.make.ensures.bare (k / 4) (omega arith) k (omega arith) (omega arith)

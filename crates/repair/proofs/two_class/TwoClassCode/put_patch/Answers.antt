@@ -10,7 +10,7 @@ unfolding two_class
 returns g c =
     let o = g.F.Field.ops in
     let symbol = numbered o.zero g.F.NumberedField.symbol in
-    let r = c.new.result in
+    let r = c.new.result.place in
     let p = c.args.self.now.parameters in
     let i = c.args.row in
     let j = c.args.column in

@@ -1,6 +1,10 @@
-use Rattle.std.proofs.Common.{rules}
+use Rattle.std.proofs.Common.{arith}
+use Rattle.text.proofs.Cuts.{parts_long}
 use Rattle.text.proofs.Laws.{word_cut}
 use Rattle.text.proofs.words.Words.of.Goals as goal
 
-pub returns : goal.returns
-returns c = record { all = search rules; cut = word_cut c.args.line.now }
+pub invariant_of-result : goal.invariant_of-result
+invariant_of-result c = record { fits = omega (arith, parts_long 9 c.args.line.now) }
+
+pub returns-clause-cut : goal.returns-clause-cut
+returns-clause-cut c = word_cut c.args.line.now

@@ -1,6 +1,0 @@
-use Rattle.std.proofs.Common.{refl}
-use Rattle.byte.specs.Laws.{is_byte}
-use Rattle.byte.proofs.byte.Byte.new.Goals as goal
-
-pub returns : goal.returns
-returns c = is_byte _ _ refl

@@ -1,0 +1,9 @@
+use Rattle.store.specs.Meaning.{read}
+use Rattle.kept.specs.Stores.{carded}
+use Rattle.kept.proofs.Vectors.{seen}
+use Rattle.kept.proofs.KeptImageStore.read.Goals as goal
+
+pub returns-clause-leaves : goal.returns-clause-leaves
+returns-clause-leaves g c =
+    let e = c.as_mut_slice.ensures in
+    seen c.args.self.now.bytes c.as_mut_slice.result.now c.read.new.units e.value c.read.auto.units e.len (carded g.F.NumberedField.symbol) (λ m. read m c.args.row c.args.node) c.read.ensures.leaves

@@ -1,0 +1,10 @@
+use Rattle.std.proofs.Common.{◌≡◌, ℕ, ◌*◌, cond, ◌&&◌, ltb, leb}
+use Rattle.store.specs.Beyond.{Beyond}
+use Rattle.medium.proofs.rewind.Given as goal
+
+abbrev pub invariant-loop-spot : goal.invariant-loop-spot
+invariant-loop-spot g l = record {
+  symbols : (k : ℕ) → g.M.Medium.symbols l.units k ≡ g.M.Medium.symbols l.initial.units k;
+  meters : (k : ℕ) → g.M.Medium.meters l.units k ≡ cond (leb l.start k && ltb k l.spot) 0 (g.M.Medium.meters l.initial.units k);
+  beyond : Beyond (g.M.Medium.each * l.spot) l.initial.units l.units;
+}

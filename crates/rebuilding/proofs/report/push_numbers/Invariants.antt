@@ -1,7 +1,0 @@
-use Rattle.std.proofs.Common.{◌≡◌, ◌++◌, take, vec_items}
-use Rattle.std.specs.List.{flat_map}
-use Rattle.rebuilding.specs.Report.{spaced_number}
-use Rattle.rebuilding.proofs.report.push_numbers.Given as goal
-
-abbrev pub invariant-loop-i : goal.invariant-loop-i
-invariant-loop-i l = vec_items l.out ≡ vec_items l.initial.out ++ flat_map spaced_number (take l.i l.numbers)

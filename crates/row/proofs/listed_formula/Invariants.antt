@@ -1,9 +1,0 @@
-use Rattle.std.proofs.Common.{◌≡◌, get_or}
-use Rattle.row.specs.Interpolation.{sum_below}
-use Rattle.row.specs.Weights.{listed_weight}
-use Rattle.row.proofs.listed_formula.Given as goal
-
-abbrev pub invariant-loop-l : goal.invariant-loop-l
-invariant-loop-l g l =
-    let o = g.F.Field.ops in
-    l.total ≡ sum_below o l.l (λ i. o.product (get_or l.values i o.zero) (listed_weight o g.F.NumberedField.symbol l.numbers l.m i))

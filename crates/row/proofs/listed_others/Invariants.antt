@@ -1,7 +1,0 @@
-use Rattle.std.proofs.Common.{◌≡◌}
-use Rattle.row.specs.Interpolation.{others}
-use Rattle.row.specs.RowRule.{points}
-use Rattle.row.proofs.listed_others.Given as goal
-
-abbrev pub invariant-loop-m : goal.invariant-loop-m
-invariant-loop-m g l = l.result ≡ others g.F.Field.ops (points g.F.Field.ops g.F.NumberedField.symbol l.numbers) l.m l.skipped l.x
