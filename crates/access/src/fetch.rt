@@ -84,7 +84,7 @@ impl FetchPlan {
     }
 }
 
-// Kept: the offset tells the way when a plan runs, so a match says it, and no type can; that an entry stands in the first part is said here and for a put.
+// Kept: the offset tells the way when a plan runs, so a match says it, and no type can. `at` puts each place in the first part, as a put's does: one line of three fields, which a helper would not shorten.
 impl Listing for FetchPlan {
     ghost entries = { λ p. fetch_entries p.place.parameters p.place.row p.place.column };
 

@@ -130,6 +130,7 @@ pub fn is_blank<F: NumberedField, S: Store<F>>(store: &S, row: usize, node: usiz
 }
 
 // Whether a node has a blank place in the rows below a number.
+// Kept: a loop, since a closure for `any` would ask again that each place is on the store.
 #[tactic(auto, using(crate::proofs::Declining::blank_found), unfolding(calls::specs::Calls::any_blank))]
 fn has_blank<F: NumberedField, S: Store<F>>(store: &S, node: usize, rows: usize) -> bool
     requires { (rows ≤ (S.Store.meaning store.now).rows) × (node < (S.Store.meaning store.now).nodes) }

@@ -6,6 +6,7 @@ use crate::fault::ParameterFault;
 use field::NumberedField;
 
 // Parameters as they are asked for, not checked.
+// Kept: four fields beside those of `Parameters`, since what is asked for has no facts.
 #[derive(Clone, Copy, Debug, PartialEq, Eq)]
 pub struct Proposed {
     pub k: usize,

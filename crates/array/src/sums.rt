@@ -43,7 +43,7 @@ pub fn weight<F: NumberedField>(k: usize, gap: usize, l: usize, at: F) -> F
 }
 
 // The row rule at a node of a row, from the row at the nodes 0, .., k but `gap`.
-// Kept: the symbols stand in a row of a table, which is no slice.
+// Kept: the symbols stand in a row of a table, which is no slice, and a closure that looks there would carry clauses of its own into `interpolate`.
 #[tactic(auto, using(row::proofs::Lagrange::sum_more), unfolding(crate::specs::Recovered::around))]
 pub fn around<F: NumberedField, T: Table<F>>(
     shape: Parameters,

@@ -36,6 +36,7 @@ fn shifted(a: u8) -> u8
     if a < 128 {
         a * 2
     } else {
+        // Kept: a cast, which the check proves to lose nothing, where `try_from` would answer an error that never comes.
         ((u16::from(a) * 2) ^ 0x11D) as u8
     }
 }

@@ -20,6 +20,7 @@ impl From<Byte> for u8 {
     }
 }
 
+// Kept: callers name the two ways by these words, and `From` names neither.
 impl Byte {
     // The symbol that holds a byte.
     pub fn new(value: u8) -> Byte

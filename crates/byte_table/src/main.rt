@@ -1,4 +1,4 @@
-// Writes, for each byte of standard input, a line with the byte, its inverse, and its products with the bytes 0 to 255.
+// Writes, for each byte that one reading of standard input gives (256 at most), a line with the byte, its inverse, and its products with the bytes 0 to 255.
 #![tactic(auto)]
 
 use byte::Byte;
@@ -7,6 +7,7 @@ use std::io;
 use std::io::{Read, Write};
 
 fn main(rt: HostRuntime) -> io::Result<()> {
+    // Kept: one reading of at most 256 bytes, of which there are 256.
     let mut bytes = [0u8; 256];
     let n = rt.stdin().read(&mut bytes)?;
     let mut line = String::new(rt.alloc());

@@ -13,7 +13,7 @@ pub enum CallName {
     Mend,
 }
 
-// Kept: a row and a data node are two words of a session's line, and a call names them as they come.
+// Kept: codes and stores take a row and a node apart, so a place would be taken apart again in each call.
 // A call: set has all symbols row by row, put a row, a data node and a symbol, fetch a row and a data node, the others a node.
 #[derive(Clone, Copy)]
 pub enum Call<'c, F> {
@@ -25,6 +25,7 @@ pub enum Call<'c, F> {
     Mend(usize),
 }
 
+// Kept: an answer is taken apart at once, so its count and its symbol stand in it without a `Found`.
 // What an accepted call answers: set, put and mend their count, fetch its count and the symbol, lose and refresh the sum cleared.
 #[derive(Clone, Copy)]
 pub enum Answer<F> {

@@ -34,6 +34,7 @@ fn begin<F: NumberedField, S: Store<F> + Drop>(
         },
     )?;
     let mut store = store;
+    // Kept: a match, since what the store means is left open by the check where a closure moves it into the machine.
     match make::<F, S>(&mut store, proposed) {
         Ok(made) => {
             let machine = Machine {
@@ -56,6 +57,7 @@ fn start(
 ) -> Result<Result<(State, usize), Decline>, AllocError>
     ensures { IfOk result (Started field store proposed.k proposed.a proposed.tau proposed.b) }
 {
+    // Kept: four arms, since each makes a machine of another type, for which the state has another case.
     match (field, store) {
         (FieldKind::Decimal, StoreKind::Bank) => {
             let begun = begin(heap, KeptBank::<Decimal>::new(heap)?, proposed)?;

@@ -54,10 +54,9 @@ pub fn make_decline(fault: MakeFault) -> Decline
 pub fn reply_of<F: Copy>(answer: Result<Answer<F>, CallFault>) -> Reply<F>
     ensures { result ≡ reply_of answer }
 {
-    match answer {
-        Ok(Answer::Counted(count)) => Ok(Accepted::Counted(count)),
-        Ok(Answer::Fetched(count, symbol)) => Ok(Accepted::Fetched(count, symbol)),
-        Ok(Answer::Cleared(sum)) => Ok(Accepted::Cleared(sum)),
-        Err(fault) => Err(decline_of(fault)),
+    match answer.map_err(decline_of)? {
+        Answer::Counted(count) => Ok(Accepted::Counted(count)),
+        Answer::Fetched(count, symbol) => Ok(Accepted::Fetched(count, symbol)),
+        Answer::Cleared(sum) => Ok(Accepted::Cleared(sum)),
     }
 }

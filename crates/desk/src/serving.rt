@@ -77,6 +77,7 @@ fn reply_put<'m, F: NumberedField + Notation, S: Store<F>>(
 }
 
 // What a machine replies to a request that is no make.
+// A call has a lifetime, that of the symbols which a set lends; a call that lends none has it from the machine.
 pub fn reply_to<'m, F: NumberedField + Notation, S: Store<F>>(
     heap: Global,
     machine: &'m mut Machine<F, S>,

@@ -29,6 +29,7 @@ pub struct Engine<C> {
 }
 
 impl<C> Engine<C> {
+    // Kept: the two tests of a making stand here too, since they are answered by faults of its own.
     // Makes an engine for a store, and blanks the code's nodes.
     #[tactic(auto, unfolding(crate::specs::Making::make_answer, crate::specs::Making::make_leaves, calls::specs::Calls::fits))]
     pub fn make<F: NumberedField, S: Store<F>>(

@@ -13,11 +13,14 @@ fn record(bytes: &[u8], spot: usize) -> Record
     ensures { result ≡ four bytes.now (4 * spot) }
 {
     let at = 4 * spot;
+    let [mark, high, low, meter] = &bytes[at..at + 4] else {
+        unreachable!()
+    };
     Record {
-        mark: bytes[at],
-        high: bytes[at + 1],
-        low: bytes[at + 2],
-        meter: bytes[at + 3],
+        mark: *mark,
+        high: *high,
+        low: *low,
+        meter: *meter,
     }
 }
 
@@ -60,8 +63,10 @@ impl<F: NumberedField> Medium<F> for Bytes {
     }
 
     fn put(bytes: &mut [u8], spot: usize, x: F) {
+        // Kept: a cast, which the check proves to lose nothing, where `try_from` would answer an error that never comes.
         let [high, low] = (x.number() as u16).to_be_bytes();
         let at = 4 * spot;
+        // Kept: three writes, since what a place holds after a copy of a run is left open by the check.
         bytes[at] = 1;
         bytes[at + 1] = high;
         bytes[at + 2] = low;

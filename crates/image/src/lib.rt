@@ -58,7 +58,7 @@ impl<'m, F: NumberedField> CardImage<'m, F> {
     }
 }
 
-// Kept: these lines stand beside the bank's, since `clear` of an image promises zeros too.
+// Kept: each call is one line beside the bank's, and one impl for both would be a struct over a medium, for which every definition that names a store would take the medium's laws.
 impl<'m, F: NumberedField> Store<F> for CardImage<'m, F> {
     ghost meaning = { means F.NumberedField.symbol };
 

@@ -3,7 +3,7 @@ ghost use Rattle.std.specs.Prelude.{◌≤◌, length};
 use bank::Cell;
 use std::marker::PhantomData;
 
-// Kept: two structs, since what a store means is told of symbols of any type, and a struct over a medium is a type only where its symbols are numbered.
+// Kept: two structs, since what a store means is told of symbols of any type, and for one struct over a medium each definition that names it would take the medium's laws.
 
 // A memory bank of 32 rows and 93 nodes that owns its cells.
 #[derive(Drop)]

@@ -70,6 +70,7 @@ impl<F: NumberedField> NodeWeights<F> {
         }
     }
 
+    // Kept: a loop beside `array`'s, since these weights are stored and those are computed.
     // The row rule at the node, from a row at the nodes 0, .., k but the gap.
     #[tactic(auto, unfolding(array::specs::Recovered::around))]
     pub(crate) fn weigh<T: Table<F>>(&self, table: &T, row: usize) -> F

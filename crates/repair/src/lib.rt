@@ -37,7 +37,7 @@ impl MakeFault {
     pub fn number(self) -> u8
         ensures { result ≡ make_number self }
     {
-        // Kept: a fault of the parameters brings its own number.
+        // Kept: a fault of the parameters brings its own number, and the numbers of such an enum cannot be cast.
         match self {
             MakeFault::Unfit(fault) => fault.number(),
             MakeFault::SmallStore => 16,

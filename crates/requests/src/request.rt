@@ -15,6 +15,7 @@ pub enum StoreKind {
     Image,
 }
 
+// Kept: k, a, tau and b are words of a make, as its field and its store are.
 #[derive(Clone, Copy)]
 pub enum Request<'a> {
     Make {

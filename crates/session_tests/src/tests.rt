@@ -5,6 +5,7 @@ use crate::echo::Echo;
 use byte::Byte;
 use field::Decimal;
 use session::held::Feed;
+use session::streaming::answer_all;
 use std::alloc::{AllocError, Global};
 use std::test::Fail;
 use symbols::notation::Notation;
@@ -94,5 +95,15 @@ fn any_chunks(rt: HostRuntime) -> Result<(), Fail> {
         let out = answered(rt.alloc(), input, size)?;
         assert!(rt; out.as_slice() == expected.as_slice());
     }
+    Ok(())
+}
+
+#[test]
+fn whole_input(rt: HostRuntime) -> Result<(), Fail> {
+    let mut echo = Echo::new(rt.alloc());
+    let mut input = b"lose\t1\nmake\tb\tc\t3\t2\t1\t0\nfetch\t8\t9".as_slice();
+    let mut output = Vec::new(rt.alloc());
+    answer_all::<_, _, _, 3>(rt.alloc(), &mut echo, &mut input, &mut output)?;
+    assert!(rt; output.as_slice() == b"no\t44\t-\t-\nok\t3\nok\t8\n".as_slice());
     Ok(())
 }

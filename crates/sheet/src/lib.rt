@@ -34,6 +34,7 @@ pub trait Listing {
 }
 
 // Symbols by row and node.
+// Kept: a row and a node apart, since those who look up compute each by itself.
 pub trait Table<F> {
     ghost held: { Self → ℕ → ℕ → F };
 

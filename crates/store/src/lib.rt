@@ -68,6 +68,7 @@ impl Cause {
 }
 
 // A store of symbols of the field F.
+// Kept: a row and a node are two numbers in each call, as the makers of cards name them.
 pub trait Store<F: NumberedField> {
     // What the store means now.
     ghost meaning: { Self → Meaning F };

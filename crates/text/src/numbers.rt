@@ -19,6 +19,7 @@ fn value(word: &[u8]) -> Option<usize>
 }
 
 // The value of a number word.
+// Kept: `value` says what is computed, and `number` says it in two more ways, which follow from the first.
 pub fn number(word: &[u8]) -> Option<usize>
     ensures reads { MatchOption result (NumberWord word.now → ⊥) (λ n. NumberWord word.now × (n ≡ digits_value 10 word.now)) }
     ensures spells { MatchOption result ((n : ℕ) → Spells word.now n → ⊥) (Spells word.now) }
