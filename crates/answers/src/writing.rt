@@ -1,4 +1,5 @@
 // Answer lines, written.
+// Kept: bytes are added to bytes, since a symbol's word is bytes and no text that `write!` could print.
 ghost use Rattle.std.specs.Prelude.{◌≡◌, [], ◌∷◌, ◌++◌, IfOk, codes, decimal, OnOk};
 ghost use Rattle.text.specs.Parts.{joined_by};
 ghost use Rattle.answers.specs.Lines.{decline_words, place_words, reply_words, answer_line};
@@ -61,6 +62,7 @@ fn write_words<S: Notation>(reply: Reply<S>, out: &mut Vec<u8>) -> Result<(), Al
 {
     match reply {
         Ok(Accepted::Made(number) | Accepted::Counted(number)) => write_number(number, out),
+        // Kept: a cast that loses nothing, since no `From` leads from a u32 to a usize.
         Ok(Accepted::Cleared(sum)) => write_number(sum as usize, out),
         Ok(Accepted::Fetched(count, symbol)) => write_fetched(count, symbol, out),
         Err(decline) => write_decline(decline, out),

@@ -35,6 +35,7 @@ impl<F: NumberedField> Points<F> for NodesBut {
 }
 
 // What the symbol at the node listed at `l` counts at `at`.
+// Kept: a function beside `row::weight`, which answers a fault where this asks for l < k; both call `basis`.
 pub fn weight<F: NumberedField>(k: usize, gap: usize, l: usize, at: F) -> F
     requires { (k ≤ 32) × (l < k) }
     ensures { result ≡ basis F.Field.ops (λ l. numbered_of F.Field.ops.zero F.symbol (skip_of gap l)) k l at }

@@ -7,6 +7,7 @@ use sheet::Part;
 use store::StoreFault;
 
 // The place and the cause stay; `named` says of which call and part.
+// Kept: a call and a part stand here until then, since a conversion sees the fault alone.
 impl From<StoreFault> for SheetFault {
     ghost from_gives = { λ f r. r ≡ unnamed f };
 

@@ -198,6 +198,7 @@ impl<C> Engine<C> {
     }
 
     // Serves one call, and so extends every history.
+    // Kept: a match with an arm for each call, since the call comes as a value.
     pub fn serve<F: NumberedField, S: Store<F>>(
         &self,
         store: &mut S,

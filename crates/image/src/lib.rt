@@ -58,7 +58,7 @@ impl<'m, F: NumberedField> CardImage<'m, F> {
     }
 }
 
-// Kept: each call is one line beside the bank's, and one impl for both would be a struct over a medium, for which every definition that names a store would take the medium's laws.
+// Kept: each call only passes on, as the bank's does, and one impl for both would be a struct over a medium, for which every definition that names a store would take the medium's laws.
 impl<'m, F: NumberedField> Store<F> for CardImage<'m, F> {
     ghost meaning = { means F.NumberedField.symbol };
 

@@ -219,6 +219,7 @@ pub fn clear<F: NumberedField, M: Medium<F>>(
 }
 
 // Sets the meters of a node to 0 and answers their former sum; declined off the store.
+// Kept: beside `clear`, since it leaves another meaning.
 pub fn refresh<F: NumberedField, M: Medium<F>>(
     units: &mut [M::Unit],
     shape: Shape,

@@ -25,6 +25,7 @@ fn symbol_in_row(symbols: &[Decimal], m: usize) -> Decimal
 }
 
 // The number i of 0, 1, 2, .. with j left out.
+// Kept: an array's nodes are listed so too, but a row of digits stands below the arrays.
 fn skip_over(j: usize, i: usize) -> usize
     requires { i < 2 ^ 63 }
     ensures { result ≡ skip j i }

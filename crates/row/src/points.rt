@@ -64,6 +64,7 @@ impl<'a, F: NumberedField> Points<F> for ListedSymbols<'a> {
 }
 
 // The product of `x` less each of the points but the one at `skipped`.
+// Kept: points are computed by their index, and no slice of them exists.
 #[tactic(auto, using(crate::proofs::Lagrange::others_skip, crate::proofs::Lagrange::others_more))]
 pub fn others<F: Field, P: Points<F>>(points: &P, skipped: usize, x: F) -> F
     ensures { result ≡ others F.ops (P.point points.now) (P.count points.now) skipped x }
@@ -87,6 +88,7 @@ pub fn basis<F: Field, P: Points<F>>(points: &P, l: usize, x: F) -> F
     above.product(below.inverse())
 }
 
+// Kept: the values lie in a slice, and each point is computed by its index.
 // Lagrange's formula: the value at `x` of the polynomial that has the values at the points.
 pub fn interpolate<F: Field, P: Points<F>>(points: &P, values: &[F], x: F) -> F
     requires { P.count points.now ≡ length values.now }

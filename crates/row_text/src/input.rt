@@ -6,6 +6,7 @@ use crate::fault::InputFault;
 use field::{Decimal, NumberedField};
 
 // The byte that writes a symbol.
+// Kept: a byte, where a symbol prints as text.
 pub fn glyph(u: Decimal) -> u8
     ensures { result ≡ glyph_of u }
 {

@@ -16,6 +16,7 @@ use symbols::notation::Notation;
 use symbols::reading::{SymbolFault, symbols_of};
 
 // A session that holds its stage and its field, and no store.
+// Kept: the stage stands beside the field, since `admit` asks for a stage.
 #[derive(Drop)]
 pub struct Echo {
     heap: Global,
@@ -45,6 +46,7 @@ impl Echo {
 }
 
 // What a request is answered, with symbols in the field in use.
+// Kept: words that are no symbols are declined here as at a desk, whose answers are an engine's.
 fn reply_to<S: Notation>(heap: Global, request: Request<'_>) -> Result<Reply<S>, AllocError> {
     let accepted = match request {
         Request::Make { k, .. } => Accepted::Made(k),

@@ -25,6 +25,7 @@ impl<'a> Lines<'a> {
     }
 
     // Takes the next line, without its line feed.
+    // Kept: a call of its own beside `next`, which says the same as a clause.
     pub fn next_line(&mut self) -> Option<&'a [u8]>
         ensures { Reads (todo self.old) result (todo self.new) }
     {

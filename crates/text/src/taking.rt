@@ -20,6 +20,7 @@ impl<'a> Words<'a> {
     }
 
     // Takes the next word.
+    // Kept: a call of its own beside `next`, which says the same as a clause.
     pub fn next_word(&mut self) -> Option<Word<'a>>
         ensures { Takes (left self.old) result (left self.new) }
     {
