@@ -5,7 +5,7 @@ use Rattle.std.specs.Io.KnownBytes.{Keeps, Appends, Consumes, IsAtEnd}
 use Rattle.session.specs.Runs.{Adds}
 use Rattle.session.specs.Feeding.{Fed, Finished}
 use Rattle.session.specs.Streaming.{Streamed}
-use Rattle.session.proofs.Streams.{Seen, step, ends, none_seen}
+use Rattle.session.proofs.Streams.{Seen, step, ends}
 
 consumes_more : (a b c : Option (List ℕ)) (x y : List ℕ) → Consumes a b x → Consumes b c y → Consumes a c (x ++ y)
 consumes_more None b c x y p q = tt
@@ -47,15 +47,6 @@ pub record Streaming {S : Type 0} (answers : S → List ℕ → S → List ℕ �
   pub written : Appends before after said
 
 module _ {S : Type 0} (answers : S → List ℕ → S → List ℕ → Type 0) (input before : Option (List ℕ)) (first : S) where
-  pub starts : (held : List ℕ) → held ≡ [] → Streaming answers input before first held input before first
-  starts held none = subst (λ h. Streaming answers input before first h input before first) (sym none) (record {
-    seen = [];
-    said = [];
-    read = consumes_none input;
-    lines = none_seen answers first;
-    written = appends_none before;
-  })
-
   -- a read that was interrupted
   pub waits : (held : List ℕ) (rest rest' after : Option (List ℕ)) (s : S) → Streaming answers input before first held rest after s → Keeps rest rest' → Streaming answers input before first held rest' after s
   waits held rest rest' after s g k = record { seen = g.seen; said = g.said; read = consumes_kept input rest rest' g.seen g.read k; lines = g.lines; written = g.written }
