@@ -53,10 +53,10 @@ module _ {F : Type 0} {o : Operations F} (laws : FieldLaws o) where
           r ∙ ap (λ t. v ⊗ t) d
 
   module _ (point : ℕ → F) where
-    factor_same : (l : ℕ) (x : F) → factor o point l x l ≡ 𝟙
+    pub factor_same : (l : ℕ) (x : F) → factor o point l x l ≡ 𝟙
     factor_same l x = grind (arith, nat_tests)
 
-    factor_other : (l m : ℕ) (x : F) → (m ≡ l → ⊥) → factor o point l x m ≡ x ⊖ point m
+    pub factor_other : (l m : ℕ) (x : F) → (m ≡ l → ⊥) → factor o point l x m ≡ x ⊖ point m
     factor_other l m x n = grind (arith, nat_tests)
 
   poly_as : (k : ℕ) (f g : F → F) → ((x : F) → f x ≡ g x) → Poly o k f → Poly o k g
@@ -102,7 +102,7 @@ module _ {F : Type 0} {o : Operations F} (laws : FieldLaws o) where
       (λ d. ap (λ t. t ⊗ f n) (product_zero_at f n j (omega arith) e) ∙ zero_product laws (f n))
       (cases_eq j n)
 
-  product_apart_below : (f : ℕ → F) (n : ℕ) → ((m : ℕ) → m < n → f m ≡ 𝟘 → ⊥) → product_below o n f ≡ 𝟘 → ⊥
+  pub product_apart_below : (f : ℕ → F) (n : ℕ) → ((m : ℕ) → m < n → f m ≡ 𝟘 → ⊥) → product_below o n f ≡ 𝟘 → ⊥
   product_apart_below f zero h = one_apart laws
   product_apart_below f (suc n) h =
       product_apart laws (product_below o n f) (f n) (product_apart_below f n (λ m b. h m (omega arith))) (h n (omega arith))
@@ -125,7 +125,7 @@ module _ {F : Type 0} {o : Operations F} (laws : FieldLaws o) where
     others_zero l j h d =
         product_zero_at (factor o point l (point j)) k j h (factor_other point l j (point j) d ∙ self_difference laws (point j))
 
-    others_apart : (l : ℕ) → l < k → others o point k l (point l) ≡ 𝟘 → ⊥
+    pub others_apart : (l : ℕ) → l < k → others o point k l (point l) ≡ 𝟘 → ⊥
     others_apart l h =
         product_apart_below (factor o point l (point l)) k
         (λ m b z.

@@ -1,4 +1,5 @@
 pub mod Algebra
+pub mod Gap
 pub mod Lagrange
 pub mod Polynomial
 pub mod Numbers
