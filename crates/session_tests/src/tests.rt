@@ -73,6 +73,12 @@ fn numbers(rt: HostRuntime) {
 fn an_empty_input(rt: HostRuntime) -> Result<(), Fail> {
     let out = answered(rt.alloc(), b"", 1)?;
     assert!(rt; out.len() == 0);
+    let mut echo = Echo::new(rt.alloc());
+    let mut feed = Feed::new(rt.alloc());
+    let mut fed = Vec::new(rt.alloc());
+    feed.feed(&mut echo, b"", &mut fed)?;
+    feed.finish(&mut echo, &mut fed)?;
+    assert!(rt; fed.len() == 0);
     Ok(())
 }
 

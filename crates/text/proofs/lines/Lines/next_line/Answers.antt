@@ -1,5 +1,4 @@
-use Rattle.std.proofs.Common.{◌∙◌, sym, ap, inl, inr, arith}
-use Rattle.std.proofs.lemmas.Bool.{eqb-false}
+use Rattle.std.proofs.Common.{◌∙◌, ap, inl, inr, rules}
 use Rattle.text.specs.Lines.{ended}
 use Rattle.text.proofs.Laws.{first_line, some_left}
 use Rattle.text.proofs.lines.Lines.next_line.Goals as goal
@@ -11,5 +10,5 @@ returns c =
     ∙ first_line c.in_ok-line.line.now _
     (elim c.else-is_empty.branch [
       | else-is_empty-via-then-is_empty+else-is_none w ↦ inr (some_left 10 c.next.new.self.rest w.if-is_none.ensures)
-      | else-is_empty-via-else-is_empty w ↦ inl (omega (arith, eqb-false _ 0 (sym c.is_empty.ensures ∙ w.if-is_empty.false)))
+      | else-is_empty-via-else-is_empty w ↦ inl (search rules)
     ])
