@@ -12,6 +12,10 @@ bare = record { symbol = None; meter = 0 }
 abbrev pub cell : {F : Type 0} → List (Cell F) → ℕ → Cell F
 cell cells k = slice_index_or cells k bare
 
+-- the cell with its meter at 0
+abbrev pub rewound : {F : Type 0} → Cell F → Cell F
+rewound c = record { symbol = c.symbol; meter = 0 }
+
 -- the store of the first rows * nodes cells, whose life is 1000; a larger meter counts as 1000
 abbrev pub kept : {F : Type 0} → ℕ → ℕ → List (Cell F) → Meaning F
 kept rows nodes cells = laid rows nodes 1000 (λ k. (cell cells k).symbol) (λ k. min (cell cells k).meter 1000)

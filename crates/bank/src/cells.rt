@@ -1,6 +1,6 @@
 // How a memory bank keeps its places: each in a cell.
-ghost use Rattle.std.specs.Prelude.{◌≡◌, min};
-ghost use Rattle.bank.specs.Cells.{bare, cell as found};
+ghost use Rattle.std.specs.Prelude.{◌≡◌, min, [], ◌∷◌};
+ghost use Rattle.bank.specs.Cells.{bare, cell as found, rewound};
 
 use crate::LIFE;
 use crate::cell::Cell;
@@ -20,6 +20,10 @@ impl<F: NumberedField> Medium<F> for Cells {
     ghost symbols = { λ cells k. (found cells k).symbol };
 
     ghost meters = { λ cells k. min (found cells k).meter 1000 };
+
+    ghost counts = { λ cells k. (found cells k).meter };
+
+    ghost rest = { λ cells k. rewound (found cells k) ∷ [] };
 
     ghost Bare = { λ cells k. found cells k ≡ bare };
 

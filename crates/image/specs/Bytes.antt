@@ -1,5 +1,5 @@
 -- What the bytes of a card image mean. Assumes nothing.
-use Rattle.std.specs.Prelude.{◌≡◌, ℕ, ◌+◌, ◌*◌, ◌<◌, ◌≤◌, min, cond, List, None, Option, ◌==◌, slice_index}
+use Rattle.std.specs.Prelude.{◌≡◌, ℕ, ◌+◌, ◌*◌, ◌<◌, ◌≤◌, min, cond, List, [], ◌∷◌, None, Option, ◌==◌, slice_index}
 use Rattle.image.specs.declared.record.Record.{Record}
 use Rattle.store.specs.Meaning.{Meaning}
 use Rattle.store.specs.Laid.{laid}
@@ -23,6 +23,10 @@ zeros = record { mark = 0; high = 0; low = 0; meter = 0 }
 -- the record with its meter at 0
 abbrev pub rewound : Record → Record
 rewound r = record { mark = r.mark; high = r.high; low = r.low; meter = 0 }
+
+-- the bytes of a record, in the order in which they lie
+abbrev pub bytes_of : Record → List ℕ
+bytes_of r = r.mark ∷ r.high ∷ r.low ∷ r.meter ∷ []
 
 -- the store of the first rows * nodes records, whose life is 250: the k-th has the bytes from 4 * k on
 abbrev pub imaged : {F : Type 0} → (ℕ → Option F) → ℕ → ℕ → List ℕ → Meaning F

@@ -1,6 +1,6 @@
 // How a card image keeps its places: each in four bytes.
 ghost use Rattle.std.specs.Prelude.{◌≡◌, ◌+◌, ◌*◌, ◌≤◌, length};
-ghost use Rattle.image.specs.Bytes.{Zeros, four, holds, wear};
+ghost use Rattle.image.specs.Bytes.{Zeros, bytes_of, four, holds, rewound, wear};
 
 use crate::LIFE;
 use crate::record::Record;
@@ -37,6 +37,10 @@ impl<F: NumberedField> Medium<F> for Bytes {
     ghost symbols = { λ bytes k. holds F.NumberedField.symbol (four bytes (4 * k)) };
 
     ghost meters = { λ bytes k. wear (four bytes (4 * k)) };
+
+    ghost counts = { λ bytes k. (four bytes (4 * k)).meter };
+
+    ghost rest = { λ bytes k. bytes_of (rewound (four bytes (4 * k))) };
 
     ghost Bare = { λ bytes k. Zeros (4 * k) (4 * (k + 1)) bytes };
 

@@ -26,6 +26,12 @@ pub trait Medium<F: NumberedField> {
     // The meter of each place.
     ghost meters: { List Self.Unit → ℕ → ℕ };
 
+    // The count of each place's meter as it stands in memory, where it may be over the life.
+    ghost counts: { List Self.Unit → ℕ → ℕ };
+
+    // The rest of each place: its units, with the meter among them at 0.
+    ghost rest: { List Self.Unit → ℕ → List Self.Unit };
+
     // Whether the place is as a new one.
     ghost Bare: { List Self.Unit → ℕ → Type 0 };
 
@@ -49,6 +55,8 @@ pub trait Medium<F: NumberedField> {
         requires lasts { meters units.old spot ≢ life }
         ensures symbols { (k : ℕ) → symbols units.new k ≡ symbols units.old k }
         ensures meters { (k : ℕ) → meters units.new k ≡ (if nat_eq k spot then meters units.old k + 1 else meters units.old k) }
+        ensures counts { (k : ℕ) → counts units.new k ≡ (if nat_eq k spot then counts units.old k + 1 else counts units.old k) }
+        ensures rest { (k : ℕ) → rest units.new k ≡ rest units.old k }
         ensures beyond { Beyond (each * (spot + 1)) units.old units.new };
 
     // Puts a symbol at a place, and leaves its meter.
@@ -56,6 +64,8 @@ pub trait Medium<F: NumberedField> {
         requires { each * (spot + 1) ≤ length units.old }
         ensures symbols { (k : ℕ) → symbols units.new k ≡ (if nat_eq k spot then Some x else symbols units.old k) }
         ensures meters { (k : ℕ) → meters units.new k ≡ meters units.old k }
+        ensures counts { (k : ℕ) → counts units.new k ≡ counts units.old k }
+        ensures rest { (k : ℕ) → k ≢ spot → rest units.new k ≡ rest units.old k }
         ensures beyond { Beyond (each * (spot + 1)) units.old units.new };
 
     // Makes a place as a new one.
@@ -63,6 +73,8 @@ pub trait Medium<F: NumberedField> {
         requires { each * (spot + 1) ≤ length units.old }
         ensures symbols { (k : ℕ) → symbols units.new k ≡ (if nat_eq k spot then None else symbols units.old k) }
         ensures meters { (k : ℕ) → meters units.new k ≡ (if nat_eq k spot then 0 else meters units.old k) }
+        ensures counts { (k : ℕ) → counts units.new k ≡ (if nat_eq k spot then 0 else counts units.old k) }
+        ensures rest { (k : ℕ) → k ≢ spot → rest units.new k ≡ rest units.old k }
         ensures bare { (k : ℕ) → ((k ≡ spot) ⊎ Bare units.old k) → Bare units.new k }
         ensures beyond { Beyond (each * (spot + 1)) units.old units.new };
 
@@ -71,6 +83,8 @@ pub trait Medium<F: NumberedField> {
         requires { each * (spot + 1) ≤ length units.old }
         ensures symbols { (k : ℕ) → symbols units.new k ≡ symbols units.old k }
         ensures meters { (k : ℕ) → meters units.new k ≡ (if nat_eq k spot then 0 else meters units.old k) }
+        ensures counts { (k : ℕ) → counts units.new k ≡ (if nat_eq k spot then 0 else counts units.old k) }
+        ensures rest { (k : ℕ) → rest units.new k ≡ rest units.old k }
         ensures beyond { Beyond (each * (spot + 1)) units.old units.new };
 }
 
@@ -94,6 +108,8 @@ fn blank<F: NumberedField, M: Medium<F>>(units: &mut [M::Unit], start: usize, en
     requires run { start ≤ end }
     ensures symbols { (k : ℕ) → M.symbols units.new k ≡ (if nat_le start k && nat_lt k end then None else M.symbols units.old k) }
     ensures meters { (k : ℕ) → M.meters units.new k ≡ (if nat_le start k && nat_lt k end then 0 else M.meters units.old k) }
+    ensures counts { (k : ℕ) → M.counts units.new k ≡ (if nat_le start k && nat_lt k end then 0 else M.counts units.old k) }
+    ensures rest { (k : ℕ) → ((k < start) ⊎ (end ≤ k)) → M.rest units.new k ≡ M.rest units.old k }
     ensures bare { (k : ℕ) → start ≤ k → k < end → M.Bare units.new k }
     ensures beyond { Beyond (M.each * end) units.old units.new }
 {
@@ -108,6 +124,8 @@ fn rewind<F: NumberedField, M: Medium<F>>(units: &mut [M::Unit], start: usize, e
     requires run { start ≤ end }
     ensures symbols { (k : ℕ) → M.symbols units.new k ≡ M.symbols units.old k }
     ensures meters { (k : ℕ) → M.meters units.new k ≡ (if nat_le start k && nat_lt k end then 0 else M.meters units.old k) }
+    ensures counts { (k : ℕ) → M.counts units.new k ≡ (if nat_le start k && nat_lt k end then 0 else M.counts units.old k) }
+    ensures rest { (k : ℕ) → M.rest units.new k ≡ M.rest units.old k }
     ensures beyond { Beyond (M.each * end) units.old units.new }
 {
     for spot in start..end {
@@ -121,6 +139,8 @@ fn rewind<F: NumberedField, M: Medium<F>>(units: &mut [M::Unit], start: usize, e
 pub fn make<F: NumberedField, M: Medium<F>>(units: &mut [M::Unit], shape: Shape)
     requires { M.each * (shape.rows * shape.nodes) ≤ length units.old }
     ensures leaves { laid shape.rows shape.nodes M.life (M.symbols units.new) (M.meters units.new) ≡ fresh F shape.rows shape.nodes M.life }
+    ensures counts { (k : ℕ) → M.counts units.new k ≡ (if nat_lt k (shape.rows * shape.nodes) then 0 else M.counts units.old k) }
+    ensures rest { (k : ℕ) → shape.rows * shape.nodes ≤ k → M.rest units.new k ≡ M.rest units.old k }
     ensures bare { (k : ℕ) → k < shape.rows * shape.nodes → M.Bare units.new k }
     ensures beyond { Beyond (M.each * (shape.rows * shape.nodes)) units.old units.new }
 {
@@ -171,6 +191,8 @@ pub fn read<F: NumberedField, M: Medium<F>>(
     requires { M.each * (shape.rows * shape.nodes) ≤ length units.old }
     ensures answers { result ≡ probed (laid shape.rows shape.nodes M.life (M.symbols units.old) (M.meters units.old)) row node }
     ensures leaves { laid shape.rows shape.nodes M.life (M.symbols units.new) (M.meters units.new) ≡ reads (laid shape.rows shape.nodes M.life (M.symbols units.old) (M.meters units.old)) row node }
+    ensures counts { (k : ℕ) → M.counts units.new k ≡ (if is_ok result && nat_eq k (shape.rows * node + row) then M.counts units.old k + 1 else M.counts units.old k) }
+    ensures rest { (k : ℕ) → M.rest units.new k ≡ M.rest units.old k }
     ensures declined { is_err result ≡ true → units.new ≡ units.old }
     ensures beyond { Beyond (M.each * (shape.rows * shape.nodes)) units.old units.new }
 {
@@ -190,6 +212,8 @@ pub fn write<F: NumberedField, M: Medium<F>>(
     requires { M.each * (shape.rows * shape.nodes) ≤ length units.old }
     ensures answers { result ≡ placed (laid shape.rows shape.nodes M.life (M.symbols units.old) (M.meters units.old)) row node }
     ensures leaves { laid shape.rows shape.nodes M.life (M.symbols units.new) (M.meters units.new) ≡ written (laid shape.rows shape.nodes M.life (M.symbols units.old) (M.meters units.old)) row node x }
+    ensures counts { (k : ℕ) → M.counts units.new k ≡ M.counts units.old k }
+    ensures rest { (k : ℕ) → k ≢ shape.rows * node + row → M.rest units.new k ≡ M.rest units.old k }
     ensures declined { is_err result ≡ true → units.new ≡ units.old }
     ensures beyond { Beyond (M.each * (shape.rows * shape.nodes)) units.old units.new }
 {
@@ -207,6 +231,8 @@ pub fn clear<F: NumberedField, M: Medium<F>>(
     requires { M.each * (shape.rows * shape.nodes) ≤ length units.old }
     ensures answers { result ≡ summed (laid shape.rows shape.nodes M.life (M.symbols units.old) (M.meters units.old)) node }
     ensures leaves { laid shape.rows shape.nodes M.life (M.symbols units.new) (M.meters units.new) ≡ cleared (laid shape.rows shape.nodes M.life (M.symbols units.old) (M.meters units.old)) node }
+    ensures counts { (k : ℕ) → M.counts units.new k ≡ (if is_ok result && (nat_le (shape.rows * node) k && nat_lt k (shape.rows * node + shape.rows)) then 0 else M.counts units.old k) }
+    ensures rest { (k : ℕ) → ((k < shape.rows * node) ⊎ (shape.rows * node + shape.rows ≤ k)) → M.rest units.new k ≡ M.rest units.old k }
     ensures declined { is_err result ≡ true → units.new ≡ units.old }
     ensures bare { is_ok result ≡ true → (k : ℕ) → shape.rows * node ≤ k → k < shape.rows * node + shape.rows → M.Bare units.new k }
     ensures beyond { Beyond (M.each * (shape.rows * shape.nodes)) units.old units.new }
@@ -228,6 +254,8 @@ pub fn refresh<F: NumberedField, M: Medium<F>>(
     requires { M.each * (shape.rows * shape.nodes) ≤ length units.old }
     ensures answers { result ≡ summed (laid shape.rows shape.nodes M.life (M.symbols units.old) (M.meters units.old)) node }
     ensures leaves { laid shape.rows shape.nodes M.life (M.symbols units.new) (M.meters units.new) ≡ refreshed (laid shape.rows shape.nodes M.life (M.symbols units.old) (M.meters units.old)) node }
+    ensures counts { (k : ℕ) → M.counts units.new k ≡ (if is_ok result && (nat_le (shape.rows * node) k && nat_lt k (shape.rows * node + shape.rows)) then 0 else M.counts units.old k) }
+    ensures rest { (k : ℕ) → M.rest units.new k ≡ M.rest units.old k }
     ensures declined { is_err result ≡ true → units.new ≡ units.old }
     ensures beyond { Beyond (M.each * (shape.rows * shape.nodes)) units.old units.new }
 {

@@ -11,5 +11,7 @@ loop-spot-preserved g c =
     record {
       symbols = λ k. c.rewind.ensures.symbols k ∙ c.loop-spot.invariant.symbols k;
       meters = λ k. let e = c.rewind.ensures.meters k in let h = c.loop-spot.invariant.meters k in grind (arith, nat_tests);
+      counts = λ k. let e = c.rewind.ensures.counts k in let h = c.loop-spot.invariant.counts k in grind (arith, nat_tests);
+      rest = λ k. c.rewind.ensures.rest k ∙ c.loop-spot.invariant.rest k;
       beyond = beyond_then (each * spot) (each * (spot + 1)) c.args.units.now c.loop-spot.units c.rewind.new.units (mul-le each spot each (spot + 1) (omega arith) (omega arith)) c.loop-spot.invariant.beyond c.rewind.ensures.beyond;
     }
