@@ -37,6 +37,11 @@ impl<F: NumberedField> Clone for NodeWeights<F> {
 
 impl<F: NumberedField> Copy for NodeWeights<F> {}
 
+// Weights are kept by their numbers, so they go to any thread, whatever the field's symbols are.
+unsafe impl<F: NumberedField> Send for NodeWeights<F> {}
+
+unsafe impl<F: NumberedField> Sync for NodeWeights<F> {}
+
 // The weights at a node, from the nodes 0, .., k but `gap`.
 fn weights<F: NumberedField>(k: usize, gap: usize, node: usize) -> [usize; 32]
     requires { k ≤ 32 }

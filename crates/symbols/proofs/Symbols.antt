@@ -17,7 +17,7 @@ module _ {S : Type 0} (written : S → List ℕ) (all rest next : List Placed) (
   here : texts all ≡ map written ss ++ w.bytes ∷ texts next
   here = h ∙ ap (λ ws. map written ss ++ texts ws) e
 
-  stop : ((s : S) → w.bytes ≡ written s → ⊥) → NoSymbol written all
+  pub stop : ((s : S) → w.bytes ≡ written s → ⊥) → NoSymbol written all
   stop none =
       let long : length all ≡ length ss + (1 + length (texts next)) = sym (length-map all (λ p. p.bytes)) ∙ ap length here ∙ length-append (map written ss) (w.bytes ∷ texts next) ∙ (omega (arith, length-map ss written)) in (
         length ss,

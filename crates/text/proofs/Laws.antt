@@ -167,7 +167,7 @@ word_cut line =
           ∙ ap (λ ws. 1 + length (flat_map (λ w. w ++ 9 ∷ []) (take k ws))) (sym same);
     }
 
-placed_some : (column : ℕ) (ws : List (List ℕ)) → 0 < length ws → 0 < length (placed column ws)
+pub placed_some : (column : ℕ) (ws : List (List ℕ)) → 0 < length ws → 0 < length (placed column ws)
 placed_some column [] h = h
 placed_some column (w ∷ ws) h = omega arith
 

@@ -15,7 +15,7 @@ pub own : IsNumeralModel (AllDigits 10) (digits_value 10)
 own = numerals_by_value (AllDigits 10) tells_digits
 
 -- what is written of a number below 100000 is a number word
-shape : (bs : List ℕ) (n : ℕ) → n < 100000 → bs ≡ decimal n → NumberWord bs
+pub shape : (bs : List ℕ) (n : ℕ) → n < 100000 → bs ≡ decimal n → NumberWord bs
 shape bs n h e =
     let fits : n < 2 ^ 64 = omega arith in
     subst NumberWord (sym e) (record {
@@ -25,7 +25,7 @@ shape bs n h e =
       digits = digits_decimal own n fits;
     })
 
-written : (bs : List ℕ) → NumberWord bs → (digits_value 10 bs < 100000) × (bs ≡ decimal (digits_value 10 bs))
+pub written : (bs : List ℕ) → NumberWord bs → (digits_value 10 bs < 100000) × (bs ≡ decimal (digits_value 10 bs))
 written bs s =
     let low : digits_value 10 bs < 100000 = digits_value_short own bs 5 s.digits s.short in
     (low, sym (decimal-digits_value own bs s.digits s.some s.lead (omega arith)))
